@@ -1,0 +1,72 @@
+-- What a walk over columns from the front knows at each step: over the digits of a number, and over the blanks before it.
+use Prim.Native.Nat.{ℕ, zero, suc, _+_, _-_, _*_, _≤_, _<_, min}
+use native.Mathlib.Omega.{arith}
+use native.Mathlib.Numerals.{add-one}
+use native.Mathlib.Nat.{zero-add, add-zero, suc-add, add-suc}
+use mathlib.Core.Path.{_≡_, refl, sym, ap, _∙_}
+use mathlib.Core.List.{List, [], _∷_}
+use mathlib.Core.Bool.{Bool, true, false, cond, _&&_}
+use lib.ListN.{length, getD, drop, drop-of-length-le}
+use lib.Seq.{drop-cons}
+use lib.Dec.{eqb, leb}
+use borrow.Author.Tests.{le-leb, lt-leb, eq-eqb, ne-eqb}
+use Rattle.digits.specs.declared.Run.{Run}
+use Rattle.digits.specs.Figures.{isDigit, blanks, leading, valueFrom, limit, capped, runOf}
+
+pub is-digit : (b : ℕ) → 48 ≤ b → b ≤ 57 → isDigit b ≡ true
+is-digit b l m = simp (le-leb 48 b l, le-leb b 57 m)
+
+pub below-digit : (b : ℕ) → b < 48 → isDigit b ≡ false
+below-digit b l = simp (lt-leb 48 b l)
+
+pub above-digit : (b : ℕ) → 57 < b → isDigit b ≡ false
+above-digit b m = simp (le-leb 48 b (omega arith), lt-leb b 57 m)
+
+-- what is capped early is capped late
+pub cap-early : (n : ℕ) (t : List ℕ) → capped (valueFrom (capped n) t) ≡ capped (valueFrom n t)
+unfolding valueFrom
+cap-early n [] = omega arith
+cap-early n (b ∷ t) =
+    sym (cap-early (capped n * 10 + (b - 48)) t)
+    ∙ ap (λ k. capped (valueFrom k t)) (omega arith)
+    ∙ cap-early (n * 10 + (b - 48)) t
+
+-- the walk's answer from place i on, n being the number so far
+unfoldable pub runFrom : ℕ → ℕ → List ℕ → Run
+runFrom n i t = record { number = capped (valueFrom n (leading t)); count = i + length (leading t) }
+
+pub run-starts : (n : ℕ) (s : List ℕ) → runOf n s ≡ runFrom (capped n) 0 (drop 0 s)
+unfolding runFrom
+run-starts n s = simp (cap-early n (leading s), zero-add)
+
+same-run : {m n i j : ℕ} → m ≡ n → i ≡ j → _≡_ {A = Run} (record { number = m; count = i }) (record { number = n; count = j })
+same-run p q = λ x. record { number = p x; count = q x }
+
+module _ (n i : ℕ) (s : List ℕ) (inside : i < length s) where
+  pub run-stops : n ≤ limit → isDigit (getD s i 0) ≡ false → runFrom n i (drop i s) ≡ record { number = n; count = i }
+  unfolding runFrom leading valueFrom
+  run-stops h d = rw (drop-cons s i 0 inside, d) (same-run (omega arith) (add-zero i))
+
+  pub run-goes : isDigit (getD s i 0) ≡ true
+    → runFrom n i (drop i s) ≡ runFrom (capped (n * 10 + (getD s i 0 - 48))) (i + 1) (drop (i + 1) s)
+  unfolding runFrom leading valueFrom
+  run-goes d =
+      rw (drop-cons s i 0 inside, d, add-one i)
+      (same-run (sym (cap-early (n * 10 + (getD s i 0 - 48)) (leading (drop (suc i) s)))) (omega arith))
+
+pub run-ends : (n i : ℕ) (s : List ℕ) → n ≤ limit → length s ≤ i → runFrom n i (drop i s) ≡ record { number = n; count = i }
+unfolding runFrom leading valueFrom
+run-ends n i s h e = rw (drop-of-length-le s e) (same-run (omega arith) (add-zero i))
+
+module _ (i : ℕ) (s : List ℕ) where
+  pub blanks-stop : i < length s → (getD s i 0 ≡ 32 → ⊥) → i ≡ i + blanks (drop i s)
+  unfolding blanks
+  blanks-stop inside d = rw (drop-cons s i 0 inside, ne-eqb (getD s i 0) 32 d) (sym (add-zero i))
+
+  pub blanks-go : i < length s → getD s i 0 ≡ 32 → i + blanks (drop i s) ≡ i + 1 + blanks (drop (i + 1) s)
+  unfolding blanks
+  blanks-go inside d = rw (drop-cons s i 0 inside, eq-eqb (getD s i 0) 32 d, add-one i) (omega arith)
+
+  pub blanks-end : length s ≤ i → i ≡ i + blanks (drop i s)
+  unfolding blanks
+  blanks-end e = rw (drop-of-length-le s e) (sym (add-zero i))

@@ -1,0 +1,51 @@
+-- How a number is read from its columns: blanks, at most one sign, digits, and in a decimal at most one point.
+use Prim.Native.Nat.{ℕ, zero, suc, _+_}
+use mathlib.Core.List.{List, [], _∷_, _++_}
+use mathlib.Core.Bool.{Bool, true, false, cond, _&&_}
+use lib.ListN.{length}
+use lib.Dec.{eqb, leb, ltb}
+use lib.IntN.{ℤ, pos, negℤ}
+use Rattle.digits.specs.Figures.{unpadded, leading, behind, valueFrom, limit, capped}
+use Rattle.number.specs.declared.Decimal.{Decimal}
+use Rattle.number.specs.declared.Figures.{Figures}
+use Rattle.number.specs.declared.Figures.the-variants.{Units, Not}
+use Rattle.number.specs.declared.Number.{Number}
+use Rattle.number.specs.declared.Number.the-variants.{Absent, Held, Malformed, OutOfRange}
+
+-- nothing but digits
+abbrev pub allDigits : List ℕ → Bool
+allDigits s = eqb (length (leading s)) (length s)
+
+-- the digits a before the point and b behind it, at least one in all: as one number of units, with as many places as b has
+abbrev pub unitsOf : List ℕ → List ℕ → Figures
+unitsOf a b = cond (eqb (length a + length b) 0) Not (Units (capped (valueFrom 0 (a ++ b))) (length b))
+
+-- behind the digits a there stands nothing, or a point (where there may be one) and digits
+unfoldable pub pointOf : Bool → List ℕ → List ℕ → Figures
+pointOf pointed a [] = unitsOf a []
+pointOf pointed a (c ∷ b) = cond (pointed && (eqb c 46 && allDigits b)) (unitsOf a b) Not
+
+-- an unsigned number
+unfoldable pub figuresOf : Bool → List ℕ → Figures
+figuresOf pointed t = pointOf pointed (leading t) (behind t)
+
+-- minus n, or n
+unfoldable pub signedOf : Bool → ℕ → ℤ
+signedOf true n = negℤ (pos n)
+signedOf false n = pos n
+
+-- an unsigned number with its sign
+unfoldable pub heldOf : Bool → Figures → Number
+heldOf minus Not = Malformed
+heldOf minus (Units n p) = cond (ltb n limit) (Held (record { units = signedOf minus n; places = p })) OutOfRange
+
+-- at most one sign
+unfoldable pub signOf : Bool → List ℕ → Number
+signOf pointed [] = Absent
+signOf pointed (b ∷ t) =
+    cond (eqb b 45) (heldOf true (figuresOf pointed t))
+    (cond (eqb b 43) (heldOf false (figuresOf pointed t)) (heldOf false (figuresOf pointed (b ∷ t))))
+
+-- what stands in the columns of a number; a point may stand in a decimal (N) and not in a whole number (I)
+unfoldable pub numberOf : Bool → List ℕ → Number
+numberOf pointed s = signOf pointed (unpadded s)

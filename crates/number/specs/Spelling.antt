@@ -1,0 +1,44 @@
+-- How a number is written into its columns: the one agreed spelling.
+use Prim.Native.Nat.{ℕ, zero, suc, _+_, _-_, _/_, _^_, max}
+use mathlib.Core.List.{List, [], _∷_, _++_}
+use mathlib.Core.Bool.{Bool, true, false, cond}
+use mathlib.Core.Option.{Option, none}
+use lib.Dec.{ltb}
+use lib.IntN.{ℤ, pos, negsuc, natAbs}
+use Rattle.digits.specs.Figures.{limit}
+use Rattle.digits.specs.Digits.{digits, size}
+use Rattle.digits.specs.Columns.{rightAdjusted, orElse}
+use Rattle.number.specs.declared.Decimal.{Decimal}
+
+-- no plus, and no minus on zero
+abbrev pub isMinus : ℤ → Bool
+isMinus (pos n) = false
+isMinus (negsuc n) = true
+
+unfoldable pub sign : Bool → List ℕ
+sign true = 45 ∷ []
+sign false = []
+
+-- the point and p digits; no point if no digits follow it
+unfoldable pub fraction : ℕ → ℕ → List ℕ
+fraction zero n = []
+fraction (suc p) n = 46 ∷ digits (suc p) n
+
+-- n units with p places, k digits standing before the point
+unfoldable pub plain : ℕ → ℕ → ℕ → List ℕ
+plain k p n = digits k (n / 10 ^ p) ++ fraction p n
+
+-- the same with its sign
+unfoldable pub spelled : Bool → ℕ → ℕ → ℕ → List ℕ
+spelled minus k p n = sign minus ++ plain k p n
+
+-- no spare leading zeros: as many digits as the number has, and one zero before a leading point;
+-- where that has no room, none
+unfoldable pub unitsIn : ℕ → Bool → ℕ → ℕ → Option (List ℕ)
+unitsIn w minus p n =
+    orElse (rightAdjusted w (spelled minus (max (size n) (p + 1) - p) p n))
+    (rightAdjusted w (spelled minus (max (size n) p - p) p n))
+
+-- a decimal in w columns
+unfoldable pub decimalIn : ℕ → Decimal → Option (List ℕ)
+decimalIn w d = cond (ltb (natAbs (d .units)) limit) (unitsIn w (isMinus (d .units)) (d .places) (natAbs (d .units))) none

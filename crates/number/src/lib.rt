@@ -1,0 +1,115 @@
+// Whole numbers and decimals in columns of any width: read to the last digit, written in the one agreed spelling.
+ghost use mathlib.Core.Path.{_≡_};
+ghost use mathlib.Core.List.{_++_};
+ghost use Prim.Native.Nat.{ℕ, _+_, _*_, _-_, _≤_, _<_, _/_, _^_};
+ghost use lib.ListN.{length, replicate};
+ghost use lib.IntN.{natAbs};
+ghost use Rattle.digits.specs.Figures.{limit};
+ghost use Rattle.digits.specs.Columns.{fits, written};
+ghost use Rattle.number.specs.Reading.{figuresOf, signedOf, heldOf, numberOf};
+ghost use Rattle.number.specs.Spelling.{isMinus, plain, spelled, decimalIn};
+
+const BLANK: u8 = 32;
+const PLUS: u8 = 43;
+const MINUS: u8 = 45;
+const POINT: u8 = 46;
+
+// Units, and how many of their digits stand behind the point: 1.5 and 1.50 differ.
+pub struct Decimal {
+    pub units: i64,
+    pub places: usize,
+}
+
+// What the digits of an unsigned number are worth, or that they are none.
+pub enum Figures {
+    Units(u64, usize),
+    Not,
+}
+
+// What stands in the columns of a number.
+pub enum Number {
+    Absent,
+    Held(Decimal),
+    Malformed,
+    OutOfRange,
+}
+
+// An unsigned number whose digits are counted.
+fn counted(digits: usize, units: u64, places: usize) -> Figures {
+    if digits == 0 {
+        return Figures::Not;
+    }
+    Figures::Units(units, places)
+}
+
+// Reads an unsigned number that fills t; pointed says whether a point may stand in it.
+pub fn figures_in(t: &[u8], pointed: bool) -> Figures
+    ensures { λ r. ⌜ r ≡ figuresOf pointed (now (t .entry)) ⌝ }
+{
+    let whole = digits::read_run(t, 0);
+    let a = whole.count;
+    let n = whole.number;
+    if a == t.len() {
+        return counted(a, n, 0);
+    }
+    if !pointed {
+        return Figures::Not;
+    }
+    if t[a] != POINT {
+        return Figures::Not;
+    }
+    let rest = &t[a + 1..];
+    let broken = digits::read_run(rest, n);
+    let b = broken.count;
+    if b != rest.len() {
+        return Figures::Not;
+    }
+    counted(a + b, broken.number, b)
+}
+
+// Minus n, or n.
+fn signed(minus: bool, n: u64) -> i64
+    requires { ⌜ n < limit ⌝ }
+    ensures { λ r. ⌜ r ≡ signedOf minus n ⌝ }
+{
+    if minus {
+        return 0 - (n as i64);
+    }
+    n as i64
+}
+
+// An unsigned number with its sign.
+fn held(minus: bool, figures: Figures) -> Number
+    ensures { λ r. ⌜ r ≡ heldOf minus figures ⌝ }
+{
+    match figures {
+        Figures::Not => Number::Malformed,
+        Figures::Units(n, places) => {
+            if n < digits::LIMIT {
+                return Number::Held(Decimal {
+                    units: signed(minus, n),
+                    places,
+                });
+            }
+            Number::OutOfRange
+        }
+    }
+}
+
+// Reads the number that stands right adjusted in s; pointed says whether a point may stand in it.
+pub fn read_number(s: &[u8], pointed: bool) -> Number
+    ensures { λ r. ⌜ r ≡ numberOf pointed (now (s .entry)) ⌝ }
+{
+    let at = digits::padding(s);
+    if at == s.len() {
+        return Number::Absent;
+    }
+    let b = s[at];
+    if b == MINUS {
+        return held(true, figures_in(&s[at + 1..], pointed));
+    }
+    if b == PLUS {
+        return held(false, figures_in(&s[at + 1..], pointed));
+    }
+    held(false, figures_in(&s[at..], pointed))
+}
