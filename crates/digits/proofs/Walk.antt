@@ -4,10 +4,10 @@ use native.Mathlib.Omega.{arith}
 use native.Mathlib.Numerals.{add-one}
 use native.Mathlib.Nat.{zero-add, add-zero, suc-add, add-suc}
 use mathlib.Core.Path.{_≡_, refl, sym, ap, _∙_}
-use mathlib.Core.List.{List, [], _∷_}
+use mathlib.Core.List.{List, [], _∷_, _++_}
 use mathlib.Core.Bool.{Bool, true, false, cond, _&&_}
-use lib.ListN.{length, getD, drop, drop-of-length-le}
-use lib.Seq.{drop-cons}
+use lib.ListN.{length, getD, take, drop, drop-of-length-le}
+use lib.Seq.{drop-cons, take-length}
 use lib.Dec.{eqb, leb}
 use borrow.Author.Tests.{le-leb, lt-leb, eq-eqb, ne-eqb}
 use Rattle.digits.specs.declared.Run.{Run}
@@ -70,3 +70,24 @@ module _ (i : ℕ) (s : List ℕ) where
   pub blanks-end : length s ≤ i → i ≡ i + blanks (drop i s)
   unfolding blanks
   blanks-end e = rw (drop-of-length-le s e) (sym (add-zero i))
+
+-- digits behind digits
+pub value-append : (n : ℕ) (s t : List ℕ) → valueFrom n (s ++ t) ≡ valueFrom (valueFrom n s) t
+unfolding valueFrom
+value-append n [] t = refl
+value-append n (b ∷ s) t = value-append (n * 10 + (b - 48)) s t
+
+-- the digits at the front are a part of the front
+pub leading-take : (s : List ℕ) → leading s ≡ take (length (leading s)) s
+unfolding leading
+leading-take [] = refl
+leading-take (b ∷ s) = go (isDigit b) (leading-take s)
+  where
+    go : (d : Bool) → leading s ≡ take (length (leading s)) s
+      → cond d (b ∷ leading s) [] ≡ take (length (cond d (b ∷ leading s) [])) (b ∷ s)
+    go true h = ap (λ l. b ∷ l) h
+    go false h = refl
+
+-- digits alone are their own front
+pub all-leading : (s : List ℕ) → length (leading s) ≡ length s → leading s ≡ s
+all-leading s h = leading-take s ∙ ap (λ k. take k s) h ∙ take-length s

@@ -34,7 +34,8 @@ fn grown(n: u64, digit: u8) -> u64
 
 // Reads the digits at the front of s behind the number n.
 pub fn read_run(s: &[u8], n: u64) -> Run
-    ensures { λ r. ⌜ r ≡ runOf n (now (s .entry)) ⌝ }
+    ensures found { λ r. ⌜ r ≡ runOf n (now (s .entry)) ⌝ }
+    ensures within { λ r. ⌜ r .count ≤ length (now (s .entry)) ⌝ }
 {
     let mut number = cap(n);
     let mut i = 0;
@@ -54,7 +55,8 @@ pub fn read_run(s: &[u8], n: u64) -> Run
 
 // How many blanks stand at the front of s.
 pub fn padding(s: &[u8]) -> usize
-    ensures { λ r. ⌜ r ≡ blanks (now (s .entry)) ⌝ }
+    ensures found { λ r. ⌜ r ≡ blanks (now (s .entry)) ⌝ }
+    ensures within { λ r. ⌜ r ≤ length (now (s .entry)) ⌝ }
 {
     let mut i = 0;
     while i < s.len() {

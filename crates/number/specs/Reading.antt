@@ -16,9 +16,13 @@ use Rattle.number.specs.declared.Number.the-variants.{Absent, Held, Malf
 abbrev pub allDigits : List ℕ → Bool
 allDigits s = eqb (length (leading s)) (length s)
 
--- the digits a before the point and b behind it, at least one in all: as one number of units, with as many places as b has
+-- at least one digit
+abbrev pub countedOf : ℕ → ℕ → ℕ → Figures
+countedOf count n places = cond (eqb count 0) Not (Units n places)
+
+-- the digits a before the point and b behind it: as one number of units, with as many places as b has
 abbrev pub unitsOf : List ℕ → List ℕ → Figures
-unitsOf a b = cond (eqb (length a + length b) 0) Not (Units (capped (valueFrom 0 (a ++ b))) (length b))
+unitsOf a b = countedOf (length a + length b) (capped (valueFrom 0 (a ++ b))) (length b)
 
 -- behind the digits a there stands nothing, or a point (where there may be one) and digits
 unfoldable pub pointOf : Bool → List ℕ → List ℕ → Figures

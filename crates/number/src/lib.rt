@@ -6,7 +6,7 @@ ghost use lib.ListN.{length, replicate};
 ghost use lib.IntN.{natAbs};
 ghost use Rattle.digits.specs.Figures.{limit};
 ghost use Rattle.digits.specs.Columns.{fits, written};
-ghost use Rattle.number.specs.Reading.{figuresOf, signedOf, heldOf, numberOf};
+ghost use Rattle.number.specs.Reading.{countedOf, figuresOf, signedOf, heldOf, numberOf};
 ghost use Rattle.number.specs.Spelling.{isMinus, plain, spelled, decimalIn};
 
 const BLANK: u8 = 32;
@@ -35,8 +35,10 @@ pub enum Number {
 }
 
 // An unsigned number whose digits are counted.
-fn counted(digits: usize, units: u64, places: usize) -> Figures {
-    if digits == 0 {
+fn counted(count: usize, units: u64, places: usize) -> Figures
+    ensures { λ r. ⌜ r ≡ countedOf count units places ⌝ }
+{
+    if count == 0 {
         return Figures::Not;
     }
     Figures::Units(units, places)

@@ -29,7 +29,7 @@ shared-slice-read-if1 c = search needs
 
 -- src/lib.rt:62:13
 returns : tie.Need-returns Inv-loop μ-loop
-returns c = let b = c .before .before .before .loop in blanks-stop (b .i) (now (c .before .before .before .before .args .s)) (c .before .before .loop-test .taken) (c .if1 .taken) ∙ sym (b .inv .1)
+returns c = let b = c .before .before .before .loop in (blanks-stop (b .i) (now (c .before .before .before .before .args .s)) (c .before .before .loop-test .taken) (c .if1 .taken) ∙ sym (b .inv .1), omega arith)
 
 -- src/lib.rt:64:9
 add-i : tie.Need-add-i Inv-loop μ-loop
@@ -45,7 +45,7 @@ loop-again c = let b = c .before .before .before .loop in (search needs, b .inv 
 
 -- src/lib.rt:56:1
 returns-2 : tie.Need-returns-2 Inv-loop μ-loop
-returns-2 c = let b = c .before .loop in blanks-end (b .i) (now (c .before .before .args .s)) (c .loop-test .left) ∙ sym (b .inv .1)
+returns-2 c = let b = c .before .loop in (blanks-end (b .i) (now (c .before .before .args .s)) (c .loop-test .left) ∙ sym (b .inv .1), omega arith)
 
 pub padding-spec : {M : Type 1} → statement M
 padding-spec =

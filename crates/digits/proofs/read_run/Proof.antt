@@ -35,11 +35,11 @@ shared-slice-read-b c = search needs
 
 -- src/lib.rt:44:13
 returns : tie.Need-returns Inv-loop μ-loop
-returns c = let b = c .before .before .before .loop in sym (b .inv .2 ∙ run-stops (b .number) (b .i) (now (c .before .before .before .before .before .before .args .s)) (c .before .before .loop-test .taken) (b .inv .1) (below-digit _ (c .if1 .taken)))
+returns c = let b = c .before .before .before .loop in (sym (b .inv .2 ∙ run-stops (b .number) (b .i) (now (c .before .before .before .before .before .before .args .s)) (c .before .before .loop-test .taken) (b .inv .1) (below-digit _ (c .if1 .taken))), omega arith)
 
 -- src/lib.rt:47:13
 returns-2 : tie.Need-returns-2 Inv-loop μ-loop
-returns-2 c = let b = c .before .before .before .before .loop in sym (b .inv .2 ∙ run-stops (b .number) (b .i) (now (c .before .before .before .before .before .before .before .args .s)) (c .before .before .before .loop-test .taken) (b .inv .1) (above-digit _ (c .if2 .taken)))
+returns-2 c = let b = c .before .before .before .before .loop in (sym (b .inv .2 ∙ run-stops (b .number) (b .i) (now (c .before .before .before .before .before .before .before .args .s)) (c .before .before .before .loop-test .taken) (b .inv .1) (above-digit _ (c .if2 .taken))), omega arith)
 
 -- src/lib.rt:49:9
 grown-requires : tie.Need-grown-requires Inv-loop μ-loop
@@ -65,7 +65,7 @@ loop-again c = let b = c .before .before .before .before .before .loop in
 
 -- src/lib.rt:36:1
 returns-3 : tie.Need-returns-3 Inv-loop μ-loop
-returns-3 c = let b = c .before .loop in sym (b .inv .2 ∙ run-ends (b .number) (b .i) (now (c .before .before .before .before .args .s)) (b .inv .1) (c .loop-test .left))
+returns-3 c = let b = c .before .loop in (sym (b .inv .2 ∙ run-ends (b .number) (b .i) (now (c .before .before .before .before .args .s)) (b .inv .1) (c .loop-test .left)), omega arith)
 
 pub read-run-spec : {M : Type 1} → statement M
 read-run-spec =
