@@ -1,3 +1,4 @@
 pub mod Walk
 pub mod Spell
 pub mod Parts
+pub mod Answers

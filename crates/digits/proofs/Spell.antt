@@ -5,17 +5,12 @@ use native.Mathlib.Nat.{pow-suc, pow-succ', div-div-eq-div-mul, div-one}
 use mathlib.Core.Path.{_≡_, refl, sym, ap, ap₂, _∙_}
 use mathlib.Core.List.{List, [], _∷_, _++_, append-assoc}
 use mathlib.Core.Bool.{Bool, true, false, cond}
-use lib.ListN.{length, getD, drop, set, length-set}
-use lib.Seq.{drop-cons, drop-set-lt, getD-set-same, lt-length-set}
+use native.Mathlib.Numerals.{add-one}
+use lib.ListN.{length, drop, set, length-append}
 use lib.Dec.{ltb}
 use borrow.Author.Tests.{lt-ltb, le-ltb}
 use Rattle.digits.specs.Digits.{digits, sizeUpTo}
-
--- what stands from a place on, once it is written
-placed : (j d : ℕ) (s : List ℕ) → j < length s → drop j (set s j d) ≡ d ∷ drop (suc j) s
-placed j d s inside =
-    drop-cons (set s j d) j 0 (lt-length-set s j d inside)
-    ∙ ap₂ (λ x t. x ∷ t) (getD-set-same s j d 0 inside) (drop-set-lt (suc j) s j d (omega arith))
+use Rattle.digits.proofs.Parts.{placed}
 
 -- one more digit written before those that stand
 pub digit-goes : (i n : ℕ) (s : List ℕ) → 0 < i → i ≤ length s
@@ -75,3 +70,9 @@ columns-done (suc i) n s h = absurd (omega arith)
 pub rest-done : (i n : ℕ) → i ≤ 0 → n / 10 ^ i ≡ n
 rest-done zero n h = div-one n
 rest-done (suc i) n h = absurd (omega arith)
+
+pub digits-length : (k n : ℕ) → length (digits k n) ≡ k
+unfolding digits
+digits-length zero n = refl
+digits-length (suc k) n =
+    length-append (digits k (n / 10)) ((48 + n % 10) ∷ []) ∙ ap (λ m. m + 1) (digits-length k (n / 10)) ∙ add-one k

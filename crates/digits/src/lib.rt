@@ -96,7 +96,8 @@ pub fn fill_blanks(columns: &mut [u8])
 
 // How many digits n has; zero has one.
 pub fn size_of(n: u64) -> usize
-    ensures { λ r. ⌜ r ≡ size n ⌝ }
+    ensures found { λ r. ⌜ r ≡ size n ⌝ }
+    ensures within { λ r. ⌜ (1 ≤ r) × (r ≤ 20) ⌝ }
 {
     let mut rest = n;
     let mut k = 0;

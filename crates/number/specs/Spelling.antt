@@ -2,8 +2,8 @@
 use Prim.Native.Nat.{ℕ, zero, suc, _+_, _-_, _/_, _^_, max}
 use mathlib.Core.List.{List, [], _∷_, _++_}
 use mathlib.Core.Bool.{Bool, true, false, cond}
-use mathlib.Core.Option.{Option, none}
-use lib.Dec.{ltb}
+use mathlib.Core.Option.{Option, none, some}
+use lib.Dec.{leb, ltb}
 use lib.IntN.{ℤ, pos, negsuc, natAbs}
 use Rattle.digits.specs.Figures.{limit}
 use Rattle.digits.specs.Digits.{digits, size}
@@ -19,16 +19,29 @@ unfoldable pub sign : Bool → List ℕ
 sign true = 45 ∷ []
 sign false = []
 
--- the point and p digits; no point if no digits follow it
-unfoldable pub fraction : ℕ → ℕ → List ℕ
-fraction zero n = []
-fraction (suc p) n = 46 ∷ digits (suc p) n
+-- how many columns the sign takes, and the point with its digits
+abbrev pub signColumns : Bool → ℕ
+signColumns true = 1
+signColumns false = 0
 
--- n units with p places, k digits standing before the point
+abbrev pub pointColumns : ℕ → ℕ
+pointColumns zero = 0
+pointColumns (suc p) = suc (suc p)
+
+-- k digits, a point and p digits
+abbrev pub pointed : ℕ → ℕ → ℕ → List ℕ
+pointed k p n = digits k (n / 10 ^ p) ++ (46 ∷ digits p n)
+
+-- n units with p places, k digits standing before the point; no point if no digits follow it
 unfoldable pub plain : ℕ → ℕ → ℕ → List ℕ
-plain k p n = digits k (n / 10 ^ p) ++ fraction p n
+plain k zero n = digits k n
+plain k (suc p) n = pointed k (suc p) n
 
--- the same with its sign
+-- the same in just w columns
+unfoldable pub plainIn : ℕ → ℕ → ℕ → Option (List ℕ)
+plainIn w p n = cond (leb (pointColumns p) w) (some (plain (w - pointColumns p) p n)) none
+
+-- a number with its sign
 unfoldable pub spelled : Bool → ℕ → ℕ → ℕ → List ℕ
 spelled minus k p n = sign minus ++ plain k p n
 

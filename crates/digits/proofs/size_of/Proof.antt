@@ -43,7 +43,7 @@ add-result c = search needs
 
 -- src/lib.rt:96:1
 returns : tie.Need-returns Inv-loop μ-loop
-returns c = let b = c .before .loop in sym (b .inv .1 ∙ size-ends (b .k) 20 (b .rest) (omega arith) (c .loop-test .left))
+returns c = let b = c .before .loop in (sym (b .inv .1 ∙ size-ends (b .k) 20 (b .rest) (omega arith) (c .loop-test .left)), omega arith)
 
 pub size-of-spec : {M : Type 1} → statement M
 size-of-spec =

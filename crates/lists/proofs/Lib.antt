@@ -1,0 +1,10 @@
+pub mod Comparing
+pub mod Counting
+pub mod Entries
+pub mod Examples
+pub mod Finding
+pub mod Keeping
+pub mod Laying
+pub mod Moving
+pub mod Parting
+pub mod Rising
