@@ -2,3 +2,5 @@ pub mod Walk
 pub mod Spell
 pub mod Parts
 pub mod Answers
+pub mod Numbers
+pub mod Bools

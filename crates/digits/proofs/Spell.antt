@@ -31,12 +31,12 @@ rest-goes (suc j) n h =
     rw e (ap (λ k. n / k) (pow-succ' 10 j) ∙ sym (div-div-eq-div-mul n 10 (10 ^ j)))
 
 -- a number of two digits is not below 10 ^ 1
-two-more : (k n : ℕ) → 10 ≤ n → n < 10 ^ k → 2 ≤ k
+pub two-more : (k n : ℕ) → 10 ≤ n → n < 10 ^ k → 2 ≤ k
 two-more zero n h l = omega arith
 two-more (suc zero) n h l = omega arith
 two-more (suc (suc k)) n h l = omega arith
 
-tenth : (k n : ℕ) → n < 10 ^ suc k → n / 10 < 10 ^ k
+pub tenth : (k n : ℕ) → n < 10 ^ suc k → n / 10 < 10 ^ k
 tenth k n h = let l : n < 10 ^ k * 10 = rw (pow-suc 10 k) at h in omega arith
 
 -- counting goes on while the rest has two digits: k of them counted, at most m of them in all

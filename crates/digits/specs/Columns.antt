@@ -5,6 +5,8 @@ use mathlib.Core.Bool.{Bool, true, false, cond}
 use mathlib.Core.Option.{Option, none, some}
 use lib.ListN.{length, replicate}
 use lib.Dec.{leb}
+use Rattle.digits.specs.declared.Written.{Written}
+use Rattle.digits.specs.declared.Written.the-variants.{Done, Unprintable, Malformed, OutOfRange, NoRoom}
 
 -- right adjusted in w columns, where it fits
 unfoldable pub rightAdjusted : ℕ → List ℕ → Option (List ℕ)
@@ -23,3 +25,30 @@ fits none = false
 abbrev pub written : Option (List ℕ) → List ℕ → List ℕ
 written (some t) old = t
 written none old = old
+
+-- the paper's number of what came of writing, 0 where it is done
+abbrev pub refusalOf : Written → ℕ
+refusalOf Done = 0
+refusalOf Unprintable = 4
+refusalOf Malformed = 9
+refusalOf OutOfRange = 10
+refusalOf NoRoom = 14
+
+-- what there is to write, or why there is nothing
+pub data Entry : Type 0 where
+  agreed : List ℕ → Entry
+  refused : Written → Entry
+
+abbrev pub answerOf : Entry → Written
+answerOf (agreed t) = Done
+answerOf (refused why) = why
+
+-- the columns, once the entry is made or refused
+abbrev pub enteredIn : Entry → List ℕ → List ℕ
+enteredIn (agreed t) old = t
+enteredIn (refused why) old = old
+
+-- a text for which there may be no room
+abbrev pub roomOf : Option (List ℕ) → Entry
+roomOf (some t) = agreed t
+roomOf none = refused NoRoom

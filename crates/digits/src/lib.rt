@@ -14,6 +14,15 @@ pub struct Run {
     pub count: usize,
 }
 
+// What came of writing into columns; unless it is done they are as they were.
+pub enum Written {
+    Done,
+    Unprintable,
+    Malformed,
+    OutOfRange,
+    NoRoom,
+}
+
 // A number, or the limit.
 fn cap(n: u64) -> u64
     ensures { λ r. ⌜ r ≡ capped n ⌝ }
