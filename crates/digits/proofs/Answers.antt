@@ -15,13 +15,13 @@ declined old e = (sym (ap fits e), sym (ap (λ o. written o old) e))
 
 -- the first of two that fits
 pub or-first : (a b : Option (List ℕ)) (old new : List ℕ) → fits a ≡ true → new ≡ written a old
-  → (true ≡ fits (orElse a b)) × (new ≡ written (orElse a b) old)
+    → (true ≡ fits (orElse a b)) × (new ≡ written (orElse a b) old)
 or-first (some t) b old new f e = (refl, e)
 or-first none b old new f e = absurd (false≢true f)
 
 -- the second, tried on what the first left
 pub or-second : (a : Option (List ℕ)) (b : ℕ → Option (List ℕ)) (old mid new : List ℕ) (r : Bool) → fits a ≡ false → mid ≡ written a old
-  → r ≡ fits (b (length mid)) → new ≡ written (b (length mid)) mid
-  → (r ≡ fits (orElse a (b (length old)))) × (new ≡ written (orElse a (b (length old))) old)
+    → r ≡ fits (b (length mid)) → new ≡ written (b (length mid)) mid
+    → (r ≡ fits (orElse a (b (length old)))) × (new ≡ written (orElse a (b (length old))) old)
 or-second (some t) b old mid new r f e g h = absurd (true≢false f)
 or-second none b old mid new r f e g h = (rw (← e) g, rw (← e) h)

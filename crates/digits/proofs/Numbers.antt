@@ -62,7 +62,7 @@ value-below n [] = omega arith
 value-below n (b ∷ s) = go (isDigit b) refl (value-below (n * 10 + (b - 48)) s)
   where
     go : (d : Bool) → isDigit b ≡ d → valueFrom (n * 10 + (b - 48)) (leading s) < (n * 10 + (b - 48) + 1) * 10 ^ length (leading s)
-      → valueFrom n (cond d (b ∷ leading s) []) < (n + 1) * 10 ^ length (cond d (b ∷ leading s) [])
+        → valueFrom n (cond d (b ∷ leading s) []) < (n + 1) * 10 ^ length (cond d (b ∷ leading s) [])
     go true e h =
         let m : b ≤ 57 = leb-true b 57 (and-right (leb 48 b) (leb b 57) e) in
         rw (pow-succ' 10 (length (leading s)), ← mul-assoc (n + 1) 10 (10 ^ length (leading s))) (lt-of-lt-of-le h (mul-le-mul-right (10 ^ length (leading s)) (omega arith)))
@@ -88,3 +88,12 @@ size-enough (suc f) n h = go (ltb n 10) refl (size-enough f (n / 10) (tenth f n 
     go : (t : Bool) → ltb n 10 ≡ t → n / 10 < 10 ^ sizeUpTo f (n / 10) → n < 10 ^ cond t 1 (suc (sizeUpTo f (n / 10)))
     go true e r = ltb-true n 10 e
     go false e r = rw (pow-suc 10 (sizeUpTo f (n / 10))) (omega arith)
+
+-- every number has a digit
+pub size-some : (f n : ℕ) → 1 ≤ sizeUpTo (suc f) n
+unfolding sizeUpTo
+size-some f n = go (ltb n 10)
+  where
+    go : (t : Bool) → 1 ≤ cond t 1 (suc (sizeUpTo f (n / 10)))
+    go true = omega arith
+    go false = omega arith

@@ -14,7 +14,7 @@ use Rattle.digits.proofs.Parts.{placed}
 
 -- one more digit written before those that stand
 pub digit-goes : (i n : ℕ) (s : List ℕ) → 0 < i → i ≤ length s
-  → digits i n ++ drop i s ≡ digits (i - 1) (n / 10) ++ drop (i - 1) (set s (i - 1) (48 + n % 10))
+    → digits i n ++ drop i s ≡ digits (i - 1) (n / 10) ++ drop (i - 1) (set s (i - 1) (48 + n % 10))
 unfolding digits
 digit-goes zero n s h inside = absurd (omega arith)
 digit-goes (suc j) n s h inside =

@@ -48,7 +48,7 @@ module _ (n i : ℕ) (s : List ℕ) (inside : i < length s) where
   run-stops h d = rw (drop-cons s i 0 inside, d) (same-run (omega arith) (add-zero i))
 
   pub run-goes : isDigit (getD s i 0) ≡ true
-    → runFrom n i (drop i s) ≡ runFrom (capped (n * 10 + (getD s i 0 - 48))) (i + 1) (drop (i + 1) s)
+      → runFrom n i (drop i s) ≡ runFrom (capped (n * 10 + (getD s i 0 - 48))) (i + 1) (drop (i + 1) s)
   unfolding runFrom leading valueFrom
   run-goes d =
       rw (drop-cons s i 0 inside, d, add-one i)
@@ -84,7 +84,7 @@ leading-take [] = refl
 leading-take (b ∷ s) = go (isDigit b) (leading-take s)
   where
     go : (d : Bool) → leading s ≡ take (length (leading s)) s
-      → cond d (b ∷ leading s) [] ≡ take (length (cond d (b ∷ leading s) [])) (b ∷ s)
+        → cond d (b ∷ leading s) [] ≡ take (length (cond d (b ∷ leading s) [])) (b ∷ s)
     go true h = ap (λ l. b ∷ l) h
     go false h = refl
 

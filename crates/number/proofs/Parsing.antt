@@ -59,7 +59,7 @@ module _ (t : List ℕ) (r : Run) (e : r ≡ runOf 0 t) where
         never false = refl
 
     module _ (b : Run) (d : b ≡ runOf (r .number) (drop (r .count + 1) t)) (point : getD t (r .count) 0 ≡ 46) (pointed : Bool)
-      (q : pointed ≡ true) where
+        (q : pointed ≡ true) where
       pub figures-odd-places : (b .count ≡ length (drop (r .count + 1) t) → ⊥) → Not ≡ figuresOf pointed t
       unfolding figuresOf pointOf
       figures-odd-places h =
@@ -73,6 +73,7 @@ module _ (t : List ℕ) (r : Run) (e : r ≡ runOf 0 t) where
         where
           full : length (leading (drop (r .count + 1) t)) ≡ length (drop (r .count + 1) t)
           full = sym (ap (λ (x : Run). x .count) d) ∙ h
+
           units : b .number ≡ capped (valueFrom 0 (leading t ++ drop (r .count + 1) t))
           units =
               ap (λ (x : Run). x .number) d

@@ -42,8 +42,8 @@ module _ (k : ℕ) (s t : List ℕ) (inside : k < length s) (same : length t ≡
       ∙ ap (λ (l : List ℕ). 46 ∷ l) (drop-at (take (k + 1) s) t (suc k) (length-take-le (k + 1) s (omega arith) ∙ add-one k))
 
   pub pointed-written : (n rest : ℕ) (front : List ℕ) → t ≡ digits (length (take (length s - (k + 1)) (drop (k + 1) s))) n
-    → rest ≡ n / 10 ^ length (take (length s - (k + 1)) (drop (k + 1) s)) → front ≡ digits (length (take k (set laid k 46))) rest
-    → front ++ drop k (set laid k 46) ≡ pointed k (length s - (k + 1)) n
+      → rest ≡ n / 10 ^ length (take (length s - (k + 1)) (drop (k + 1) s)) → front ≡ digits (length (take k (set laid k 46))) rest
+      → front ++ drop k (set laid k 46) ≡ pointed k (length s - (k + 1)) n
   pointed-written n rest front a b c =
       ap₂ (λ (x y : List ℕ). x ++ y)
       (c ∙ ap₂ digits front-length (b ∙ ap (λ m. n / 10 ^ m) (rest-length (k + 1) s)))
@@ -96,8 +96,8 @@ sign-first (b ∷ s) h = refl
 
 module _ (s t old : List ℕ) (k p n : ℕ) where
   pub signed-written : (minus : Bool) → minus ≡ true → length s ≡ signColumns minus + (k + pointColumns p)
-    → t ≡ written (plainIn (length (take (length (set s 0 45) - 1) (drop 1 (set s 0 45)))) p n) old
-    → putMid 1 (length (set s 0 45) - 1) (set s 0 45) t ≡ spelled minus k p n
+      → t ≡ written (plainIn (length (take (length (set s 0 45) - 1) (drop 1 (set s 0 45)))) p n) old
+      → putMid 1 (length (set s 0 45) - 1) (set s 0 45) t ≡ spelled minus k p n
   unfolding spelled sign
   signed-written minus q h e =
       put-rest 1 (set s 0 45) t
@@ -108,7 +108,7 @@ module _ (s t old : List ℕ) (k p n : ℕ) where
       room = h ∙ ap (λ m. signColumns m + (k + pointColumns p)) q
 
   pub unsigned-written : (minus : Bool) → minus ≡ false → length s ≡ signColumns minus + (k + pointColumns p)
-    → t ≡ written (plainIn (length s) p n) old → t ≡ spelled minus k p n
+      → t ≡ written (plainIn (length s) p n) old → t ≡ spelled minus k p n
   unfolding spelled sign
   unsigned-written minus q h e =
       e ∙ ap (λ o. written o old) (plain-exact (length s) p n k (h ∙ ap (λ m. signColumns m + (k + pointColumns p)) q ∙ zero-add (k + pointColumns p)))
@@ -133,13 +133,13 @@ module _ (w : ℕ) (minus : Bool) (k p n : ℕ) where
   adjusted-none h = rw (spelled-length minus k p n, lt-leb (signColumns minus + (k + pointColumns p)) w h)
 
   pub adjusted-some : (c : ℕ) → c ≡ signColumns minus + (k + pointColumns p) → c ≤ w
-    → rightAdjusted w (spelled minus k p n) ≡ some (replicate (w - c) 32 ++ spelled minus k p n)
+      → rightAdjusted w (spelled minus k p n) ≡ some (replicate (w - c) 32 ++ spelled minus k p n)
   unfolding rightAdjusted
   adjusted-some c e h = rw (spelled-length minus k p n, ← e, le-leb c w h)
 
 -- blanks before the spelling
 pub adjusted-written : (s blanks t : List ℕ) (first : ℕ) → first ≤ length s → blanks ≡ replicate (length (take first s)) 32
-  → putMid first (length (blanks ++ drop first s) - first) (blanks ++ drop first s) t ≡ replicate first 32 ++ t
+    → putMid first (length (blanks ++ drop first s) - first) (blanks ++ drop first s) t ≡ replicate first 32 ++ t
 adjusted-written s blanks t first h e =
     put-rest first (blanks ++ drop first s) t
     ∙ ap (λ (l : List ℕ). l ++ t) (take-at blanks (drop first s) first (ap length all ∙ length-replicate first 32) ∙ all)
@@ -174,12 +174,12 @@ leastIn w minus p n = rightAdjusted w (spelled minus (max (size n) p - p) p n)
 
 module _ (minus : Bool) (p n : ℕ) (old mid : List ℕ) where
   pub units-full : fits (fullIn (length old) minus p n) ≡ true → mid ≡ written (fullIn (length old) minus p n) old
-    → (true ≡ fits (unitsIn (length old) minus p n)) × (mid ≡ written (unitsIn (length old) minus p n) old)
+      → (true ≡ fits (unitsIn (length old) minus p n)) × (mid ≡ written (unitsIn (length old) minus p n) old)
   unfolding unitsIn
   units-full f e = or-first (fullIn (length old) minus p n) (leastIn (length old) minus p n) old mid f e
 
   pub units-least : fits (fullIn (length old) minus p n) ≡ false → mid ≡ written (fullIn (length old) minus p n) old
-    → (new : List ℕ) (r : Bool) → r ≡ fits (leastIn (length mid) minus p n) → new ≡ written (leastIn (length mid) minus p n) mid
-    → (r ≡ fits (unitsIn (length old) minus p n)) × (new ≡ written (unitsIn (length old) minus p n) old)
+      → (new : List ℕ) (r : Bool) → r ≡ fits (leastIn (length mid) minus p n) → new ≡ written (leastIn (length mid) minus p n) mid
+      → (r ≡ fits (unitsIn (length old) minus p n)) × (new ≡ written (unitsIn (length old) minus p n) old)
   unfolding unitsIn
   units-least f e new r g h = or-second (fullIn (length old) minus p n) (λ w. leastIn w minus p n) old mid new r f e g h

@@ -10,8 +10,11 @@ ghost use Rattle.number.specs.Reading.{countedOf, figuresOf, signedOf, h
 ghost use Rattle.number.specs.Spelling.{isMinus, signColumns, pointColumns, pointed, plainIn, spelled, unitsIn, decimalIn};
 
 const BLANK: u8 = 32;
+
 const PLUS: u8 = 43;
+
 const MINUS: u8 = 45;
+
 const POINT: u8 = 46;
 
 // Units, and how many of their digits stand behind the point: 1.5 and 1.50 differ.

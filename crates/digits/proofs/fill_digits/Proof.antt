@@ -49,11 +49,12 @@ loop-less c = search needs
 
 -- src/lib.rt:76:5
 loop-again : tie.Need-loop-again Inv-loop μ-loop
-loop-again c = let b = c .before .loop in
-    (simp length-set (omega arith),
-    simp length-set (b .inv .1),
-    b .inv .2 ∙ digit-goes (b .i) (b .rest) (b .columns) (c .loop-test .taken) (b .inv .0),
-    b .inv .3 ∙ rest-goes (b .i) (b .rest) (c .loop-test .taken))
+loop-again c = let b = c .before .loop in (
+  simp length-set (omega arith),
+  simp length-set (b .inv .1),
+  b .inv .2 ∙ digit-goes (b .i) (b .rest) (b .columns) (c .loop-test .taken) (b .inv .0),
+  b .inv .3 ∙ rest-goes (b .i) (b .rest) (c .loop-test .taken),
+)
 
 -- src/lib.rt:70:1
 same-length : tie.Need-same-length Inv-loop μ-loop
@@ -61,9 +62,10 @@ same-length c = c .before .loop .inv .1
 
 -- src/lib.rt:70:1
 returns : tie.Need-returns Inv-loop μ-loop
-returns c = let b = c .before .loop in
-    (sym (b .inv .3 ∙ rest-done (b .i) (b .rest) (c .loop-test .left)),
-    sym (b .inv .2 ∙ columns-done (b .i) (b .rest) (b .columns) (c .loop-test .left)))
+returns c = let b = c .before .loop in (
+  sym (b .inv .3 ∙ rest-done (b .i) (b .rest) (c .loop-test .left)),
+  sym (b .inv .2 ∙ columns-done (b .i) (b .rest) (b .columns) (c .loop-test .left)),
+)
 
 pub fill-digits-spec : {M : Type 1} → statement M
 fill-digits-spec =

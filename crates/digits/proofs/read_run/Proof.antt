@@ -56,12 +56,13 @@ loop-less c = search needs
 -- src/lib.rt:41:5
 loop-again : tie.Need-loop-again Inv-loop μ-loop
 loop-again c = let b = c .before .before .before .before .before .loop in
-    let s = now (c .before .before .before .before .before .before .before .before .args .s) in
-    (search needs,
-    omega (arith, c .grown .ensures),
-    b .inv .2
-    ∙ run-goes (b .number) (b .i) s (c .before .before .before .before .loop-test .taken) (is-digit _ (c .before .before .if1 .left) (c .before .if2 .left))
-    ∙ ap (λ k. runFrom k (b .i + 1) (drop (b .i + 1) s)) (sym (c .grown .ensures)))
+    let s = now (c .before .before .before .before .before .before .before .before .args .s) in (
+      search needs,
+      omega (arith, c .grown .ensures),
+      b .inv .2
+          ∙ run-goes (b .number) (b .i) s (c .before .before .before .before .loop-test .taken) (is-digit _ (c .before .before .if1 .left) (c .before .if2 .left))
+          ∙ ap (λ k. runFrom k (b .i + 1) (drop (b .i + 1) s)) (sym (c .grown .ensures)),
+    )
 
 -- src/lib.rt:36:1
 returns-3 : tie.Need-returns-3 Inv-loop μ-loop

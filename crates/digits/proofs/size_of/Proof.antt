@@ -32,10 +32,11 @@ loop-less c = search needs
 -- src/lib.rt:101:5
 loop-again : tie.Need-loop-again Inv-loop μ-loop
 loop-again c = let b = c .before .loop in
-    let room = size-room (b .k) 20 (b .rest) (c .loop-test .taken) (b .inv .2) in
-    (omega arith,
-    b .inv .1 ∙ size-goes (b .k) 20 (b .rest) (c .loop-test .taken) (b .inv .2),
-    size-below (b .k) 20 (b .rest) (c .loop-test .taken) (b .inv .2))
+    let room = size-room (b .k) 20 (b .rest) (c .loop-test .taken) (b .inv .2) in (
+      omega arith,
+      b .inv .1 ∙ size-goes (b .k) 20 (b .rest) (c .loop-test .taken) (b .inv .2),
+      size-below (b .k) 20 (b .rest) (c .loop-test .taken) (b .inv .2),
+    )
 
 -- src/lib.rt:105:5
 add-result : tie.Need-add-result Inv-loop μ-loop
