@@ -5,10 +5,12 @@ use mathlib.Core.Bool.{Bool, true, false, false≢true, true≢false}
 use mathlib.Core.Option.{Option, none, some}
 use Prim.Native.Nat.{ℕ}
 use lib.ListN.{length}
-use Rattle.digits.specs.Columns.{orElse, fits, written}
+use Rattle.digits.specs.declared.Written.{Written}
+use Rattle.digits.specs.declared.Written.the-variants.{Done}
+use Rattle.digits.specs.Columns.{orElse, fits, written, Entry, agreed, refused, answerOf, enteredIn}
 
-pub agreed : {o : Option (List ℕ)} {t : List ℕ} (old new : List ℕ) → o ≡ some t → new ≡ t → (true ≡ fits o) × (new ≡ written o old)
-agreed old new e h = (sym (ap fits e), h ∙ sym (ap (λ o. written o old) e))
+pub fitted : {o : Option (List ℕ)} {t : List ℕ} (old new : List ℕ) → o ≡ some t → new ≡ t → (true ≡ fits o) × (new ≡ written o old)
+fitted old new e h = (sym (ap fits e), h ∙ sym (ap (λ o. written o old) e))
 
 pub declined : {o : Option (List ℕ)} (old : List ℕ) → o ≡ none → (false ≡ fits o) × (old ≡ written o old)
 declined old e = (sym (ap fits e), sym (ap (λ o. written o old) e))
@@ -25,3 +27,10 @@ pub or-second : (a : Option (List ℕ)) (b : ℕ → Option (List ℕ)) (old mid
     → (r ≡ fits (orElse a (b (length old)))) × (new ≡ written (orElse a (b (length old))) old)
 or-second (some t) b old mid new r f e g h = absurd (true≢false f)
 or-second none b old mid new r f e g h = (rw (← e) g, rw (← e) h)
+
+-- the same of an entry that may be refused
+pub made : {e : Entry} {t : List ℕ} (old new : List ℕ) → e ≡ agreed t → new ≡ t → (Done ≡ answerOf e) × (new ≡ enteredIn e old)
+made old new q h = (sym (ap answerOf q), h ∙ sym (ap (λ e. enteredIn e old) q))
+
+pub turned-away : {e : Entry} {why : Written} (old : List ℕ) → e ≡ refused why → (why ≡ answerOf e) × (old ≡ enteredIn e old)
+turned-away old q = (sym (ap answerOf q), sym (ap (λ e. enteredIn e old) q))

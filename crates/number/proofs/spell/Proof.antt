@@ -1,5 +1,5 @@
 use Rattle.number.proofs.Writing.{adjusted-none, adjusted-some, adjusted-written}
-use Rattle.digits.proofs.Answers.{agreed, declined}
+use Rattle.digits.proofs.Answers.{fitted, declined}
 use lib.Seq.{length-take-le}
 use lib.ListN.{replicate, length}
 use denote.Ref.{now}
@@ -77,7 +77,7 @@ same-length c = search needs
 returns-2 : tie.Need-returns-2
 returns-2 c = let s = now (c .before .before .before .before .before .before .before .before .before .before .before .before .args .columns) in
     let w = c .before .before .before .before .before .before .before .before .before .before .sign-columns .result + (c .before .before .before .before .before .before .before .before .before .before .before .before .args .k + c .before .before .before .before .before .before .before .before .before .point-columns .result) in
-    agreed _ _ (adjusted-some (length s) _ _ _ _ w (ap₂ (λ a b. a + (c .before .before .before .before .before .before .before .before .before .before .before .before .args .k + b)) (c .before .before .before .before .before .before .before .before .before .before .sign-columns .ensures .0) (c .before .before .before .before .before .before .before .before .before .point-columns .ensures .0)) (c .before .before .before .before .before .before .before .before .if1 .left))
+    fitted _ _ (adjusted-some (length s) _ _ _ _ w (ap₂ (λ a b. a + (c .before .before .before .before .before .before .before .before .before .before .before .before .args .k + b)) (c .before .before .before .before .before .before .before .before .before .before .sign-columns .ensures .0) (c .before .before .before .before .before .before .before .before .before .point-columns .ensures .0)) (c .before .before .before .before .before .before .before .before .if1 .left))
     (adjusted-written s (c .before .before .before .before .before .before .fill-blanks .last .0) (c .before .before .write-signed .last .0) (length s - w) (omega arith) (c .before .before .before .before .before .before .fill-blanks .ensures) ∙ ap (λ t. replicate (length s - w) 32 ++ t) (c .before .before .write-signed .ensures))
 
 pub spell-spec : {M : Type 1} → statement M

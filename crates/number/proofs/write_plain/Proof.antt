@@ -1,5 +1,5 @@
 use Rattle.number.proofs.Writing.{plain-whole, plain-short, plain-pointed}
-use Rattle.digits.proofs.Answers.{agreed, declined}
+use Rattle.digits.proofs.Answers.{fitted, declined}
 use denote.Ref.{now}
 use native.Mathlib.Omega.{arith}
 use borrow.Author.Needs.{needs}
@@ -20,7 +20,7 @@ same-length c = search needs
 
 -- src/lib.rt:163:9
 returns : tie.Need-returns
-returns c = agreed _ (c .before .before .fill-digits .last .0) (plain-whole _ _ _ (c .before .before .before .before .if1 .taken)) (c .before .before .fill-digits .ensures .1)
+returns c = fitted _ (c .before .before .fill-digits .last .0) (plain-whole _ _ _ (c .before .before .before .before .if1 .taken)) (c .before .before .fill-digits .ensures .1)
 
 -- src/lib.rt:166:9
 returns-2 : tie.Need-returns-2
@@ -44,7 +44,7 @@ same-length-2 c = search needs
 
 -- src/lib.rt:157:1
 returns-3 : tie.Need-returns-3
-returns-3 c = agreed _ (c .before .before .write-pointed .last .0) (plain-pointed _ _ _ (c .before .before .before .before .before .if1 .left) (c .before .before .before .before .if2 .left)) (c .before .before .write-pointed .ensures)
+returns-3 c = fitted _ (c .before .before .write-pointed .last .0) (plain-pointed _ _ _ (c .before .before .before .before .before .if1 .left) (c .before .before .before .before .if2 .left)) (c .before .before .write-pointed .ensures)
 
 pub write-plain-spec : {M : Type 1} → statement M
 write-plain-spec =
