@@ -3,15 +3,15 @@ use Prim.Native.Nat.{ℕ, zero, suc, _+_, _-_, _*_, _≤_, _<_, min}
 use native.Mathlib.Omega.{arith}
 use native.Mathlib.Numerals.{add-one}
 use native.Mathlib.Nat.{zero-add, add-zero, suc-add, add-suc}
-use mathlib.Core.Path.{_≡_, refl, sym, ap, _∙_}
+use mathlib.Core.Path.{_≡_, refl, sym, ap, ap₂, _∙_}
 use mathlib.Core.List.{List, [], _∷_, _++_}
 use mathlib.Core.Bool.{Bool, true, false, cond, _&&_}
-use lib.ListN.{length, getD, take, drop, drop-of-length-le}
+use lib.ListN.{length, getD, take, drop, replicate, drop-of-length-le}
 use lib.Seq.{drop-cons, take-length}
 use lib.Dec.{eqb, leb}
-use borrow.Author.Tests.{le-leb, lt-leb, eq-eqb, ne-eqb}
+use borrow.Author.Tests.{le-leb, lt-leb, eq-eqb, ne-eqb, eqb-true}
 use Rattle.digits.specs.declared.Run.{Run}
-use Rattle.digits.specs.Figures.{isDigit, blanks, leading, valueFrom, limit, capped, runOf}
+use Rattle.digits.specs.Figures.{isDigit, blanks, unpadded, leading, valueFrom, limit, capped, runOf}
 
 pub is-digit : (b : ℕ) → 48 ≤ b → b ≤ 57 → isDigit b ≡ true
 is-digit b l m = simp (le-leb 48 b l, le-leb b 57 m)
@@ -91,3 +91,30 @@ leading-take (b ∷ s) = go (isDigit b) (leading-take s)
 -- digits alone are their own front
 pub all-leading : (s : List ℕ) → length (leading s) ≡ length s → leading s ≡ s
 all-leading s h = leading-take s ∙ ap (λ k. take k s) h ∙ take-length s
+
+-- columns that are all blank
+pub blank-all : (w : ℕ) → blanks (replicate w 32) ≡ w
+unfolding blanks
+blank-all zero = refl
+blank-all (suc w) = ap suc (blank-all w)
+
+pub all-blank : (s : List ℕ) → blanks s ≡ length s → s ≡ replicate (length s) 32
+unfolding blanks
+all-blank [] h = refl
+all-blank (b ∷ s) h = go (eqb b 32) refl (λ k. all-blank s k) h
+  where
+    go : (t : Bool) → eqb b 32 ≡ t → (blanks s ≡ length s → s ≡ replicate (length s) 32)
+        → cond t (suc (blanks s)) 0 ≡ suc (length s) → b ∷ s ≡ 32 ∷ replicate (length s) 32
+    go true q r e = ap₂ (λ x l. x ∷ l) (eqb-true b 32 q) (r (omega arith))
+    go false q r e = absurd (omega arith)
+
+-- and nothing else is left of them without their blanks
+pub unpadded-none : (s : List ℕ) → unpadded s ≡ [] → blanks s ≡ length s
+unfolding unpadded blanks
+unpadded-none [] h = refl
+unpadded-none (b ∷ s) h = go (eqb b 32) (unpadded-none s) h
+  where
+    go : (t : Bool) → (drop (blanks s) s ≡ [] → blanks s ≡ length s) → drop (cond t (suc (blanks s)) 0) (b ∷ s) ≡ []
+        → cond t (suc (blanks s)) 0 ≡ suc (length s)
+    go true r e = ap suc (r e)
+    go false r e = let x : _≡_ {A = ℕ} 0 1 = cc in absurd (omega arith)

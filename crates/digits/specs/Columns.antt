@@ -6,7 +6,7 @@ use mathlib.Core.Option.{Option, none, some}
 use lib.ListN.{length, replicate}
 use lib.Dec.{leb}
 use Rattle.digits.specs.declared.Written.{Written}
-use Rattle.digits.specs.declared.Written.the-variants.{Done, Unprintable, Malformed, OutOfRange, NoRoom}
+use Rattle.digits.specs.declared.Written.the-variants.{Done, Unprintable, Malformed, OutOfRange, OtherKind, NoRoom}
 
 -- right adjusted in w columns, where it fits
 unfoldable pub rightAdjusted : ℕ → List ℕ → Option (List ℕ)
@@ -32,6 +32,7 @@ refusalOf Done = 0
 refusalOf Unprintable = 4
 refusalOf Malformed = 9
 refusalOf OutOfRange = 10
+refusalOf OtherKind = 12
 refusalOf NoRoom = 14
 
 -- what there is to write, or why there is nothing

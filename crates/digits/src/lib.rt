@@ -20,6 +20,7 @@ pub enum Written {
     Unprintable,
     Malformed,
     OutOfRange,
+    OtherKind,
     NoRoom,
 }
 

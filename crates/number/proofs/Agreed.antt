@@ -197,3 +197,68 @@ decimal-agreed point s d e =
     wider v w d h r =
         let b : signColumns (r .minus) + r .columns ≤ v = r .within in
         record { minus = r .minus; number = r .number; columns = r .columns; within = omega arith; stood = r .stood; small = r .small; is = r .is }
+
+figures-places : (u : List ℕ) (n p : ℕ) → figuresOf false u ≡ Units n p → p ≡ 0
+unfolding figuresOf pointOf
+figures-places u n p e = go (behind u) e
+  where
+    go : (r : List ℕ) → pointOf false (leading u) r ≡ Units n p → p ≡ 0
+    go [] h = sym (counted-is (length (leading u) + 0) (capped (valueFrom 0 (leading u ++ []))) 0 n p h .2)
+    go (c ∷ b) h = let x : _≡_ {A = ℕ} 0 1 = cc in absurd (omega arith)
+
+held-places : (minus : Bool) (u : List ℕ) (d : Decimal) → heldOf minus (figuresOf false u) ≡ Held d → d .places ≡ 0
+unfolding heldOf
+held-places minus u d e = go (figuresOf false u) refl e
+  where
+    test : (n p : ℕ) → figuresOf false u ≡ Units n p → (t : Bool)
+        → cond t (Held (record { units = signedOf minus n; places = p })) OutOfRange ≡ Held d → d .places ≡ 0
+    test n p q true h =
+        let e : _≡_ {A = Decimal} (record { units = signedOf minus n; places = p }) d = cc in
+        sym (ap (λ (x : Decimal). x .places) e) ∙ figures-places u n p q
+    test n p q false h = let x : _≡_ {A = ℕ} 0 1 = cc in absurd (omega arith)
+
+    go : (f : Figures) → figuresOf false u ≡ f → heldOf minus f ≡ Held d → d .places ≡ 0
+    go Not q h = let x : _≡_ {A = ℕ} 0 1 = cc in absurd (omega arith)
+    go (Units n p) q h = test n p q (ltb n limit) h
+
+sign-places : (v : List ℕ) (d : Decimal) → signOf false v ≡ Held d → d .places ≡ 0
+unfolding signOf
+sign-places [] d e = let x : _≡_ {A = ℕ} 0 1 = cc in absurd (omega arith)
+sign-places (b ∷ t) d e = go (eqb b 45) (eqb b 43) e
+  where
+    go : (x y : Bool)
+        → cond x (heldOf true (figuresOf false t)) (cond y (heldOf false (figuresOf false t)) (heldOf false (figuresOf false (b ∷ t)))) ≡ Held d
+        → d .places ≡ 0
+    go true y h = held-places true t d h
+    go false true h = held-places false t d h
+    go false false h = held-places false (b ∷ t) d h
+
+-- a whole number has no places
+pub whole-places : (s : List ℕ) (d : Decimal) → numberOf false s ≡ Held d → d .places ≡ 0
+unfolding numberOf
+whole-places s d e = sign-places (unpadded s) d e
+
+-- only blanks are absent
+held-present : (minus : Bool) (f : Figures) → heldOf minus f ≡ Absent → ⊥
+unfolding heldOf
+held-present minus Not e = let x : _≡_ {A = ℕ} 0 1 = cc in omega arith
+held-present minus (Units n p) e = go (ltb n limit) e
+  where
+    go : (t : Bool) → cond t (Held (record { units = signedOf minus n; places = p })) OutOfRange ≡ Absent → ⊥
+    go true h = let x : _≡_ {A = ℕ} 0 1 = cc in omega arith
+    go false h = let x : _≡_ {A = ℕ} 0 1 = cc in omega arith
+
+pub absent-blank : (point : Bool) (s : List ℕ) → numberOf point s ≡ Absent → unpadded s ≡ []
+unfolding numberOf signOf
+absent-blank point s e = go (unpadded s) e
+  where
+    test : (b : ℕ) (t : List ℕ) (x y : Bool)
+        → cond x (heldOf true (figuresOf point t)) (cond y (heldOf false (figuresOf point t)) (heldOf false (figuresOf point (b ∷ t)))) ≡ Absent
+        → b ∷ t ≡ []
+    test b t true y h = absurd (held-present true (figuresOf point t) h)
+    test b t false true h = absurd (held-present false (figuresOf point t) h)
+    test b t false false h = absurd (held-present false (figuresOf point (b ∷ t)) h)
+
+    go : (v : List ℕ) → signOf point v ≡ Absent → v ≡ []
+    go [] h = refl
+    go (b ∷ t) h = test b t (eqb b 45) (eqb b 43) h

@@ -15,7 +15,7 @@ use Rattle.text.specs.Texts.{textEnd, textOf, printable, leadingBlank, w
 use Rattle.text.proofs.Ends.{text-agreed}
 
 -- what stands behind a text is blank
-blank-behind : (s : List ℕ) → drop (textEnd s) s ≡ replicate (length s - textEnd s) 32
+pub blank-behind : (s : List ℕ) → drop (textEnd s) s ≡ replicate (length s - textEnd s) 32
 unfolding textEnd
 blank-behind [] = refl
 blank-behind (b ∷ s) = go (eqb (textEnd s) 0 && eqb b 32) refl (blank-behind s)

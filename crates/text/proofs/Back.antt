@@ -14,7 +14,7 @@ use Rattle.digits.proofs.Bools.{and-left, and-right}
 use Rattle.text.specs.Texts.{textEnd, textOf, printable, leadingBlank, wellFormed, textIn}
 
 -- blanks behind a text are no part of it
-end-blanks : (t : List ℕ) (k : ℕ) → textEnd (t ++ replicate k 32) ≡ textEnd t
+pub end-blanks : (t : List ℕ) (k : ℕ) → textEnd (t ++ replicate k 32) ≡ textEnd t
 unfolding textEnd
 end-blanks [] zero = refl
 end-blanks [] (suc k) = rw (end-blanks [] k)

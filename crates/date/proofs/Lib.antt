@@ -1,0 +1,4 @@
+pub mod Reading
+pub mod Filled
+pub mod Back
+pub mod Agreed

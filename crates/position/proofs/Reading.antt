@@ -1,0 +1,117 @@
+-- What each way through the reading of a coordinate finds.
+use Prim.Native.Nat.{ℕ, _+_, _-_, _^_, _≤_, _<_}
+use native.Mathlib.Omega.{arith}
+use native.Mathlib.Nat.{pow-le-pow-right}
+use mathlib.Core.Path.{_≡_, sym, ap, _∙_}
+use mathlib.Core.List.{List, [], _∷_, _++_, append-nil}
+use mathlib.Core.Bool.{Bool, true, false, cond}
+use lib.ListN.{length, getD, take, drop, length-take, length-drop}
+use lib.Dec.{eqb, lit<}
+use lib.IntN.{ℤ}
+use borrow.Author.Tests.{eq-eqb, ne-eqb, lt-ltb, le-ltb, le-leb, lt-leb}
+use Rattle.digits.specs.Figures.{blanks, unpadded, leading, behind, valueFrom, capped}
+use Rattle.digits.proofs.Numbers.{value-below}
+use Rattle.digits.proofs.Parts.{rest-part}
+use Rattle.digits.proofs.Walk.{leading-take}
+use Rattle.number.specs.Reading.{pointOf, figuresOf, signedOf, numberOf}
+use Rattle.number.specs.declared.Figures.{Figures}
+use Rattle.number.specs.declared.Figures.the-variants.{Units, Not}
+use Rattle.number.specs.declared.Number.{Number}
+use Rattle.number.specs.declared.Number.the-variants.{Absent as NoNumber, Malformed as Odd}
+use Rattle.position.specs.Axes.{boundOf, letterOf}
+use Rattle.position.specs.Angles.{part, paddedOf, unitsOf, partsOf, isSpelled, arcOf, angledOf, angleOf}
+use Rattle.position.specs.Grid.{presentOf, gridOf}
+use Rattle.position.specs.declared.Axis.{Axis}
+use Rattle.position.specs.declared.Parts.{Parts}
+use Rattle.position.specs.declared.Angled.the-variants.{Absent, Held, Malformed, OutOfRange}
+
+pub padded-is : (s : List ℕ) (at : ℕ) → at ≡ blanks s → figuresOf false (take (length s - at) (drop at s)) ≡ paddedOf s
+unfolding paddedOf unpadded
+padded-is s at e = ap (figuresOf false) (rest-part at s ∙ ap (λ k. drop k s) e)
+
+pub same-parts : {d e m n s r t u : Figures} → d ≡ e → m ≡ n → s ≡ r → t ≡ u
+    → _≡_ {A = Parts} (record { degrees = d; minutes = m; seconds = s; thousandths = t }) (record { degrees = e; minutes = n; seconds = r; thousandths = u })
+same-parts a b c d = λ i. record { degrees = a i; minutes = b i; seconds = c i; thousandths = d i }
+
+-- three columns hold no more than 999
+three : (t : List ℕ) → length t ≤ 3 → unitsOf (figuresOf false t) < 1000
+unfolding figuresOf pointOf
+three t h = go (behind t)
+  where
+    small : valueFrom 0 (leading t) < 1000
+    small =
+        let k : length (leading t) ≤ 3 = omega (arith, ap length (leading-take t) ∙ length-take (length (leading t)) t) in
+        let p : 10 ^ length (leading t) ≤ 10 ^ 3 = pow-le-pow-right (lit< tt) k in
+        omega (arith, value-below 0 t)
+
+    none-or-small : (b : Bool) → unitsOf (cond b Not (Units (capped (valueFrom 0 (leading t ++ []))) 0)) < 1000
+    none-or-small true = omega arith
+    none-or-small false = rw append-nil (let v : valueFrom 0 (leading t) < 1000 = small in omega arith)
+
+    go : (b : List ℕ) → unitsOf (pointOf false (leading t) b) < 1000
+    go [] = none-or-small (eqb (length (leading t) + 0) 0)
+    go (b ∷ r) = omega arith
+
+pub parts-small : (s : List ℕ) → (unitsOf (partsOf s .degrees) < 1000) × (unitsOf (partsOf s .thousandths) < 1000)
+unfolding partsOf paddedOf unpadded
+parts-small s = (
+  three (drop (blanks (part 0 3 s)) (part 0 3 s)) (simp (length-drop, length-take) (omega arith)),
+  three (part 8 11 s) (simp (length-take) (omega arith)),
+)
+
+-- an angle on its axis
+module _ (a : Axis) (minus : Bool) (p : Parts) where
+  pub minutes-outside : 60 ≤ unitsOf (p .minutes) → OutOfRange ≡ angledOf a minus p
+  unfolding angledOf
+  minutes-outside h = rw (le-ltb (unitsOf (p .minutes)) 60 h)
+
+  module _ (within : unitsOf (p .minutes) < 60) where
+    pub seconds-outside : 60 ≤ unitsOf (p .seconds) → OutOfRange ≡ angledOf a minus p
+    unfolding angledOf
+    seconds-outside h = rw (lt-ltb (unitsOf (p .minutes)) 60 within, le-ltb (unitsOf (p .seconds)) 60 h)
+
+    module _ (too : unitsOf (p .seconds) < 60) (n : ℕ) (e : n ≡ arcOf p) (b : ℕ) (f : b ≡ boundOf a) where
+      pub arc-outside : b < n → OutOfRange ≡ angledOf a minus p
+      unfolding angledOf
+      arc-outside h =
+          rw (← e, ← f, lt-ltb (unitsOf (p .minutes)) 60 within, lt-ltb (unitsOf (p .seconds)) 60 too, lt-leb n b h)
+
+      pub arc-within : n ≤ b → (z : ℤ) → z ≡ signedOf minus n → Held z ≡ angledOf a minus p
+      unfolding angledOf
+      arc-within h z q =
+          rw (← e, ← f, lt-ltb (unitsOf (p .minutes)) 60 within, lt-ltb (unitsOf (p .seconds)) 60 too, le-leb n b h, q)
+
+module _ (a : Axis) (s : List ℕ) (at : ℕ) (e : at ≡ blanks s) where
+  pub angle-absent : at ≡ length s → Absent ≡ angleOf a s
+  unfolding angleOf
+  angle-absent h = rw (eq-eqb (blanks s) (length s) (sym e ∙ h))
+
+  pub grid-absent : at ≡ length s → NoNumber ≡ gridOf a s
+  unfolding gridOf
+  grid-absent h = rw (eq-eqb (blanks s) (length s) (sym e ∙ h))
+
+  module _ (present : at ≡ length s → ⊥) where
+    some-present : eqb (blanks s) (length s) ≡ false
+    some-present = ne-eqb (blanks s) (length s) (λ q. present (e ∙ q))
+
+    pub angle-width : (length s ≡ 12 → ⊥) → Malformed ≡ angleOf a s
+    unfolding angleOf
+    angle-width h = rw (some-present, ne-eqb (length s) 12 h)
+
+    module _ (wide : length s ≡ 12) (p : Parts) (q : p ≡ partsOf s) (b : Bool) (r : b ≡ isSpelled a p (getD s 7 0) (getD s 11 0)) where
+      pub angle-other : b ≡ false → Malformed ≡ angleOf a s
+      unfolding angleOf
+      angle-other h = rw (some-present, eq-eqb (length s) 12 wide, ← q, ← r, h)
+
+      pub angle-parts : b ≡ true → (l : ℕ) → l ≡ letterOf a true → angledOf a (eqb (getD s 11 0) l) p ≡ angleOf a s
+      unfolding angleOf
+      angle-parts h l k = rw (some-present, eq-eqb (length s) 12 wide, ← q, ← r, h, ← k)
+
+    module _ (l : ℕ) (k : l ≡ letterOf a false) where
+      pub grid-other : (getD s (length s - 1) 0 ≡ l → ⊥) → Odd ≡ gridOf a s
+      unfolding gridOf
+      grid-other h = rw (some-present, ← k, ne-eqb (getD s (length s - 1) 0) l h)
+
+      pub grid-number : getD s (length s - 1) 0 ≡ l → (n : Number) → n ≡ numberOf true (take (length s - 1) s) → presentOf n ≡ gridOf a s
+      unfolding gridOf
+      grid-number h n q = rw (some-present, ← k, eq-eqb (getD s (length s - 1) 0) l h, ← q)

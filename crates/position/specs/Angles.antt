@@ -1,0 +1,81 @@
+-- Form 0: an angle in twelve columns, dddmmss.sss and a letter.
+use Prim.Native.Nat.{ℕ, _+_, _*_, _-_, _/_, _%_}
+use mathlib.Core.List.{List, [], _∷_, _++_}
+use mathlib.Core.Bool.{Bool, true, false, cond, _&&_}
+use lib.ListN.{length, take, drop, getD}
+use lib.Dec.{eqb, leb, ltb}
+use lib.IntN.{ℤ, natAbs}
+use Rattle.digits.specs.Figures.{blanks, unpadded}
+use Rattle.digits.specs.Columns.{Entry, agreed, refused}
+use Rattle.digits.specs.declared.Written.the-variants.{OutOfRange as Outside, NoRoom}
+use Rattle.number.specs.Reading.{figuresOf, signedOf}
+use Rattle.number.specs.Spelling.{isMinus, plain}
+use Rattle.number.specs.declared.Figures.{Figures}
+use Rattle.number.specs.declared.Figures.the-variants.{Units, Not}
+use Rattle.position.specs.Axes.{boundOf, letterOf, isLetter}
+use Rattle.position.specs.declared.Axis.{Axis}
+use Rattle.position.specs.declared.Parts.{Parts}
+use Rattle.position.specs.declared.Angled.{Angled}
+use Rattle.position.specs.declared.Angled.the-variants.{Absent, Held, Malformed, OutOfRange}
+
+-- the columns from one place to before another
+abbrev pub part : ℕ → ℕ → List ℕ → List ℕ
+part from to s = take (to - from) (drop from s)
+
+-- digits, which blanks may pad on the left
+unfoldable pub paddedOf : List ℕ → Figures
+paddedOf s = figuresOf false (unpadded s)
+
+abbrev pub isNumber : Figures → Bool
+isNumber (Units n p) = true
+isNumber Not = false
+
+abbrev pub unitsOf : Figures → ℕ
+unitsOf (Units n p) = n
+unitsOf Not = 0
+
+-- ddd, mm, ss and the sss behind the point, which nothing pads
+unfoldable pub partsOf : List ℕ → Parts
+partsOf s =
+    record {
+      degrees = paddedOf (part 0 3 s);
+      minutes = paddedOf (part 3 5 s);
+      seconds = paddedOf (part 5 7 s);
+      thousandths = figuresOf false (part 8 11 s);
+    }
+
+-- all parts are there, the point and the letter
+unfoldable pub isSpelled : Axis → Parts → ℕ → ℕ → Bool
+isSpelled a p point letter =
+    ((isNumber (p .degrees) && isNumber (p .minutes)) && (isNumber (p .seconds) && isNumber (p .thousandths)))
+    && (eqb point 46 && isLetter a letter)
+
+-- thousandths of a second
+abbrev pub arcOf : Parts → ℕ
+arcOf p = ((unitsOf (p .degrees) * 60 + unitsOf (p .minutes)) * 60 + unitsOf (p .seconds)) * 1000 + unitsOf (p .thousandths)
+
+-- an angle on its axis
+unfoldable pub angledOf : Axis → Bool → Parts → Angled
+angledOf a minus p =
+    cond ((ltb (unitsOf (p .minutes)) 60 && ltb (unitsOf (p .seconds)) 60) && leb (arcOf p) (boundOf a))
+    (Held (signedOf minus (arcOf p)))
+    OutOfRange
+
+-- what stands in the columns of an angle
+unfoldable pub angleOf : Axis → List ℕ → Angled
+angleOf a s =
+    cond (eqb (blanks s) (length s)) Absent
+    (cond (eqb (length s) 12 && isSpelled a (partsOf s) (getD s 7 0) (getD s 11 0))
+    (angledOf a (eqb (getD s 11 0) (letterOf a true)) (partsOf s))
+    Malformed)
+
+-- the number dddmmsssss of n thousandths of a second
+abbrev pub figuresIn : ℕ → ℕ
+figuresIn n = n / 3600000 * 10000000 + n / 60000 % 60 * 100000 + n % 60000
+
+-- an angle in w columns: zero-padded, zero as N or E
+unfoldable pub angleIn : Axis → ℕ → ℤ → Entry
+angleIn a w z =
+    cond (leb (natAbs z) (boundOf a))
+    (cond (eqb w 12) (agreed (plain 7 3 (figuresIn (natAbs z)) ++ (letterOf a (isMinus z) ∷ []))) (refused NoRoom))
+    (refused Outside)

@@ -1,0 +1,5 @@
+pub mod Ways
+pub mod Edge
+pub mod Absence
+pub mod Back
+pub mod Agreed
