@@ -18,7 +18,8 @@ use Rattle.date.specs.Calendar.{isLeap, isShort, daysIn, isDate}
 use Rattle.date.specs.Dates.{numberOf, partsOf, datedOf, dateOf, dateIn}
 use Rattle.date.specs.declared.Date.{Date}
 use Rattle.date.specs.declared.Dated.the-variants.{Held}
-use Rattle.date.proofs.Filled.{no-blanks, digits-fill}
+use Rattle.date.proofs.Filled.{digits-fill}
+use Rattle.digits.proofs.Numbers.{no-blanks}
 
 days-most : (year month : ℕ) → daysIn year month ≤ 31
 unfolding daysIn

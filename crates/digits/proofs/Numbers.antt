@@ -10,7 +10,7 @@ use lib.ListN.{length}
 use lib.Dec.{leb, ltb, lit<}
 use lib.Arith.{mod-mul}
 use lib.Pow.{pow-add}
-use borrow.Author.Tests.{le-leb, lt-ltb, le-ltb, leb-true, ltb-true, ltb-false}
+use borrow.Author.Tests.{ne-eqb, leb-true, ltb-true, ltb-false}
 use Rattle.digits.specs.Figures.{isDigit, blanks, unpadded, leading, behind, valueFrom}
 use Rattle.digits.specs.Digits.{digits, sizeUpTo}
 use Rattle.digits.proofs.Bools.{and-left, and-right}
@@ -33,6 +33,27 @@ digits-lead (suc k) n r =
   where
     one : leading ((48 + n % 10) ∷ r) ≡ (48 + n % 10) ∷ leading r
     one = rw (written-digit n)
+
+-- so they are digits alone
+pub digits-alone : (k n : ℕ) → leading (digits k n) ≡ digits k n
+unfolding leading
+digits-alone k n = ap leading (sym (append-nil (digits k n))) ∙ digits-lead k n [] ∙ append-nil (digits k n)
+
+-- a byte before digits alone is one, and no blank
+pub first-digit : (b : ℕ) (s : List ℕ) → length (leading (b ∷ s)) ≡ suc (length s) → (isDigit b ≡ true) × (length (leading s) ≡ length s)
+unfolding leading
+first-digit b s h = go (isDigit b) refl h
+  where
+    go : (t : Bool) → isDigit b ≡ t → length (cond t (b ∷ leading s) []) ≡ suc (length s) → (isDigit b ≡ true) × (length (leading s) ≡ length s)
+    go true e q = (e, omega arith)
+    go false e q = absurd (omega arith)
+
+pub no-blanks : (s : List ℕ) → length (leading s) ≡ length s → 0 < length s → blanks s ≡ 0
+unfolding blanks
+no-blanks [] h k = refl
+no-blanks (b ∷ s) h k =
+    let l : 48 ≤ b = leb-true 48 b (and-left (leb 48 b) (leb b 57) (first-digit b s h .0)) in
+    rw (ne-eqb b 32 (λ p. omega arith))
 
 tens : (k : ℕ) → 0 < 10 ^ k
 tens zero = omega arith

@@ -25,7 +25,7 @@ pub enum Written {
 }
 
 // A number, or the limit.
-fn cap(n: u64) -> u64
+pub fn cap(n: u64) -> u64
     ensures { λ r. ⌜ r ≡ capped n ⌝ }
 {
     if n < LIMIT {

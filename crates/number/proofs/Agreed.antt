@@ -142,7 +142,7 @@ sign-read point (b ∷ t) d e = go (eqb b 45) (eqb b 43) e
     go false false h = held-read false point (b ∷ t) (suc (length t)) d (omega arith) h
 
 -- the sign and the magnitude of a number with a sign
-signed-size : (m : Bool) (n : ℕ) → natAbs (signedOf m n) ≡ n
+pub signed-size : (m : Bool) (n : ℕ) → natAbs (signedOf m n) ≡ n
 unfolding signedOf
 signed-size true zero = refl
 signed-size true (suc n) = refl

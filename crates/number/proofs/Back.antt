@@ -15,7 +15,7 @@ use Rattle.digits.specs.Figures.{isDigit, blanks, unpadded, leading, behind, va
 use Rattle.digits.specs.Digits.{digits, size, sizeUpTo}
 use Rattle.digits.specs.Columns.{rightAdjusted, orElse}
 use Rattle.digits.proofs.Spell.{digits-length}
-use Rattle.digits.proofs.Numbers.{digits-lead, digits-value, digits-split, size-enough, size-some}
+use Rattle.digits.proofs.Numbers.{digits-lead, digits-alone, digits-value, digits-split, size-enough, size-some}
 use Rattle.number.specs.declared.Decimal.{Decimal}
 use Rattle.number.specs.declared.Figures.{Figures}
 use Rattle.number.specs.declared.Figures.the-variants.{Units, Not}
@@ -32,10 +32,6 @@ rest : (k n : ℕ) (r : List ℕ) → leading r ≡ [] → behind (digits k n ++
 unfolding behind
 rest k n r e =
     ap (λ (l : List ℕ). drop (length l) (digits k n ++ r)) (lead k n r e) ∙ drop-append-seam (digits k n) r
-
-alone : (k n : ℕ) → leading (digits k n) ≡ digits k n
-unfolding leading
-alone k n = ap leading (sym (append-nil (digits k n))) ∙ lead k n [] refl
 
 -- digits in all that hold the number are worth the number
 worth : (k n : ℕ) → n < 10 ^ k → n < limit → capped (valueFrom 0 (digits k n)) ≡ n
@@ -63,7 +59,7 @@ module _ (point : Bool) (k n : ℕ) (l : n < limit) where
       (digits-length p n))
     where
       all : eqb (length (leading (digits p n))) (length (digits p n)) ≡ true
-      all = eq-eqb (length (leading (digits p n))) (length (digits p n)) (ap length (alone p n))
+      all = eq-eqb (length (leading (digits p n))) (length (digits p n)) (ap length (digits-alone p n))
 
   figures-plain : (p : ℕ) → 1 ≤ k + p → n < 10 ^ (k + p) → (1 ≤ p → point ≡ true) → figuresOf point (plain k p n) ≡ Units n p
   unfolding plain

@@ -4,7 +4,7 @@ ghost use mathlib.Core.List.{_++_};
 ghost use Prim.Native.Nat.{ℕ, _+_, _*_, _-_, _≤_, _<_, _/_, _^_, max};
 ghost use lib.ListN.{length, replicate};
 ghost use lib.IntN.{natAbs};
-ghost use Rattle.digits.specs.Figures.{limit};
+ghost use Rattle.digits.specs.Figures.{capped};
 ghost use Rattle.digits.specs.Columns.{rightAdjusted, fits, written};
 ghost use Rattle.number.specs.Reading.{countedOf, figuresOf, signedOf, heldOf, numberOf};
 ghost use Rattle.number.specs.Spelling.{isMinus, signColumns, pointColumns, pointed, plainIn, spelled, unitsIn, decimalIn};
@@ -72,15 +72,15 @@ pub fn figures_in(t: &[u8], pointed: bool) -> Figures
     counted(a + b, broken.number, b)
 }
 
-// Minus n, or n.
-fn signed(minus: bool, n: u64) -> i64
-    requires { ⌜ n < limit ⌝ }
-    ensures { λ r. ⌜ r ≡ signedOf minus n ⌝ }
+// Minus n, or n; from the limit on, the limit.
+pub fn signed(minus: bool, n: u64) -> i64
+    ensures { λ r. ⌜ r ≡ signedOf minus (capped n) ⌝ }
 {
+    let m = digits::cap(n);
     if minus {
-        return 0 - (n as i64);
+        return 0 - (m as i64);
     }
-    n as i64
+    m as i64
 }
 
 // An unsigned number with its sign.

@@ -15,14 +15,13 @@ use Rattle.number.specs.Reading.{signedOf, numberOf}
 use Rattle.number.specs.declared.Decimal.{Decimal}
 use Rattle.number.specs.declared.Number.{Number}
 use Rattle.number.specs.declared.Number.the-variants.{Absent as Missing, Held as Holds, Malformed as Odd, OutOfRange as Outside}
-use Rattle.number.proofs.Agreed.{decimal-agreed}
+use Rattle.number.proofs.Agreed.{decimal-agreed, signed-size}
 use Rattle.number.specs.Spelling.{isMinus, plain}
 use Rattle.position.specs.Axes.{boundOf, letterOf}
 use Rattle.position.specs.Angles.{unitsOf, partsOf, isSpelled, arcOf, angledOf, angleOf, figuresIn, angleIn}
 use Rattle.position.specs.Grid.{presentOf, gridOf, gridIn}
 use Rattle.position.specs.declared.Axis.{Axis}
 use Rattle.position.specs.declared.Angled.the-variants.{Absent, Held, Malformed, OutOfRange}
-use Rattle.position.proofs.Letters.{signed-size}
 
 pub angle-agreed : (a : Axis) (s : List ℕ) (z : ℤ) → angleOf a s ≡ Held z → (t : List ℕ) × (angleIn a (length s) z ≡ agreed t)
 unfolding angleOf angledOf angleIn

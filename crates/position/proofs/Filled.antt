@@ -10,41 +10,26 @@ use lib.Dec.{eqb, leb}
 use borrow.Author.Tests.{eqb-true, ne-eqb, leb-true}
 use Rattle.digits.specs.Figures.{isDigit, blanks, unpadded, leading, valueFrom, limit, capped, runOf}
 use Rattle.digits.specs.Digits.{digits}
-use Rattle.digits.proofs.Bools.{and-left}
-use Rattle.digits.proofs.Numbers.{digits-lead, digits-value}
+use Rattle.digits.proofs.Numbers.{digits-alone, digits-value, no-blanks}
 use Rattle.digits.proofs.Spell.{digits-length}
 use Rattle.number.specs.Reading.{countedOf, figuresOf}
 use Rattle.number.specs.declared.Figures.the-variants.{Units}
 use Rattle.number.proofs.Parsing.{figures-whole}
 use Rattle.position.specs.Angles.{paddedOf}
 
-digits-lead-all : (k n : ℕ) → leading (digits k n) ≡ digits k n
-unfolding leading
-digits-lead-all k n = sym (ap leading (append-nil (digits k n))) ∙ digits-lead k n [] ∙ append-nil (digits k n)
-
--- digits have no blanks before them
-no-blanks : (s : List ℕ) → leading s ≡ s → 0 < length s → blanks s ≡ 0
-unfolding blanks leading
-no-blanks [] h k = refl
-no-blanks (b ∷ s) h k = go (isDigit b) refl (ap length h)
-  where
-    go : (t : Bool) → isDigit b ≡ t → length (cond t (b ∷ leading s) []) ≡ suc (length s) → cond (eqb b 32) (suc (blanks s)) 0 ≡ 0
-    go true e q = let l : 48 ≤ b = leb-true 48 b (and-left (leb 48 b) (leb b 57) e) in rw (ne-eqb b 32 (λ p. omega arith))
-    go false e q = absurd (omega arith)
-
 module _ (k n : ℕ) (some-digit : 0 < k) (few : 10 ^ k ≤ limit) (positive : 0 < 10 ^ k) where
   -- the last k digits of n are read as a number
   pub figures-digits : figuresOf false (digits k n) ≡ Units (n % 10 ^ k) 0
   figures-digits =
-      sym (figures-whole (digits k n) (runOf 0 (digits k n)) refl false (ap length (digits-lead-all k n)))
-      ∙ ap₂ (λ c v. countedOf c (capped v) 0) (ap length (digits-lead-all k n) ∙ digits-length k n) (ap (valueFrom 0) (digits-lead-all k n) ∙ digits-value 0 k n)
+      sym (figures-whole (digits k n) (runOf 0 (digits k n)) refl false (ap length (digits-alone k n)))
+      ∙ ap₂ (λ c v. countedOf c (capped v) 0) (ap length (digits-alone k n) ∙ digits-length k n) (ap (valueFrom 0) (digits-alone k n) ∙ digits-value 0 k n)
       ∙ rw (ne-eqb k 0 (λ q. omega arith))
       (let h : n % 10 ^ k < 10 ^ k = mod-lt n positive in ap (λ v. Units v 0) (omega arith))
 
   pub padded-digits : paddedOf (digits k n) ≡ Units (n % 10 ^ k) 0
   unfolding paddedOf unpadded
   padded-digits =
-      ap (λ j. figuresOf false (drop j (digits k n))) (no-blanks (digits k n) (digits-lead-all k n) (rw (digits-length k n) some-digit))
+      ap (λ j. figuresOf false (drop j (digits k n))) (no-blanks (digits k n) (ap length (digits-alone k n)) (rw (digits-length k n) some-digit))
       ∙ figures-digits
 
 -- all blank

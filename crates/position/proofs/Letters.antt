@@ -5,7 +5,6 @@ use mathlib.Core.Path.{_≡_, refl}
 use mathlib.Core.Bool.{Bool, true, false}
 use lib.Dec.{eqb}
 use lib.IntN.{natAbs}
-use Rattle.number.specs.Reading.{signedOf}
 use Rattle.position.specs.Axes.{boundOf, letterOf, isLetter}
 use Rattle.position.specs.declared.Axis.{Axis}
 use Rattle.position.specs.declared.Axis.the-variants.{Y, X}
@@ -35,9 +34,3 @@ pub bound-most : (a : Axis) → boundOf a ≤ 648000000
 unfolding boundOf
 bound-most Y = omega arith
 bound-most X = omega arith
-
-pub signed-size : (minus : Bool) (n : ℕ) → natAbs (signedOf minus n) ≡ n
-unfolding signedOf
-signed-size true zero = refl
-signed-size true (suc n) = refl
-signed-size false n = refl

@@ -2,7 +2,6 @@
 ghost use mathlib.Core.Path.{_≡_};
 ghost use Prim.Native.Nat.{_<_, _≤_};
 ghost use lib.ListN.{length};
-ghost use Rattle.digits.specs.Figures.{limit};
 ghost use Rattle.digits.specs.Columns.{answerOf, enteredIn};
 ghost use Rattle.number.specs.Reading.{signedOf};
 ghost use Rattle.position.specs.Axes.{boundOf, letterOf};
@@ -142,17 +141,6 @@ fn is_spelled(axis: Axis, p: Parts, point: u8, last: u8) -> bool
     (whole & broken) & ((point == POINT) & lettered)
 }
 
-// Minus n, or n.
-fn signed(minus: bool, n: u64) -> i64
-    requires { ⌜ n < limit ⌝ }
-    ensures { λ r. ⌜ r ≡ signedOf minus n ⌝ }
-{
-    if minus {
-        return 0 - (n as i64);
-    }
-    n as i64
-}
-
 // The angle that the parts make.
 fn judged(axis: Axis, minus: bool, p: Parts) -> Angled
     requires { ⌜ (unitsOf (p .degrees) < 1000) × (unitsOf (p .thousandths) < 1000) ⌝ }
@@ -174,7 +162,7 @@ fn judged(axis: Axis, minus: bool, p: Parts) -> Angled
     if bound(axis) < n {
         return Angled::OutOfRange;
     }
-    Angled::Held(signed(minus, n))
+    Angled::Held(number::signed(minus, n))
 }
 
 // Reads the angle that fills s.

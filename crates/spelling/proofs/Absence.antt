@@ -42,7 +42,7 @@ use Rattle.spelling.specs.Reading.{textReading, wholeReading, decimalRea
 abbrev pub blankIn : ℕ → List ℕ
 blankIn w = replicate w 32
 
-zero-one : _≡_ {A = ℕ} 0 1 → ⊥
+pub zero-one : _≡_ {A = ℕ} 0 1 → ⊥
 zero-one h = omega arith
 
 -- what a blank field's columns say

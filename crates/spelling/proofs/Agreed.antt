@@ -1,6 +1,5 @@
 -- What was read can always be rewritten in the same width: the one agreed spelling, and twice is once.
 use Prim.Native.Nat.{ℕ}
-use native.Mathlib.Omega.{arith}
 use mathlib.Core.Path.{_≡_, refl, sym, ap, subst, _∙_}
 use mathlib.Core.List.{List}
 use mathlib.Core.Bool.{Bool, true, false, cond, _||_, not, true≢false, false≢true}
@@ -37,14 +36,12 @@ use Rattle.spelling.specs.declared.Spelling.{Spelling}
 use Rattle.spelling.specs.declared.Spelling.the-variants as spelled
 use Rattle.spelling.specs.Reading.{textReading, wholeReading, decimalReading, dateReading, angleReading, readingOf, isText}
 use Rattle.spelling.specs.Writing.{noValueIn, wholeIn, unitsIn, dayIn, arcIn, gridEntryIn, entryOf, textEntryOf, againIn, rewrittenOf}
+use Rattle.spelling.proofs.Absence.{zero-one}
 use Rattle.spelling.proofs.Back.{value-back}
 
 -- a text that it agrees to
 abbrev Agrees : Entry → Type 0
 Agrees e = (t : List ℕ) × (e ≡ agreed t)
-
-zero-one : _≡_ {A = ℕ} 0 1 → ⊥
-zero-one h = omega arith
 
 module _ (s : List ℕ) where
   -- a number that was read: absent, or one for which there is room

@@ -1,7 +1,8 @@
 use Rattle.number.proofs.Parsing.{held-not, held-units, held-large}
 use mir.ValLaws.{toZ-ofZ}
 use mir.Syntax.{w64}
-use mathlib.Core.Path.{_∙_}
+use mathlib.Core.Path.{ap, _∙_}
+use Rattle.number.specs.Reading.{signedOf}
 use native.Mathlib.Omega.{arith}
 use borrow.Author.Needs.{needs}
 use Rattle.number.proofs.held.Statement.{statement}
@@ -24,7 +25,7 @@ signed-requires c κs = search needs
 
 -- src/lib.rt:91:17
 returns : tie.Need-returns
-returns c = held-units _ _ _ _ (c .before .before .before .figures .given .1) _ (toZ-ofZ w64 (c .signed .result) (record { sfits = c .signed .ok }) ∙ c .signed .ensures) (c .before .if1 .taken)
+returns c = held-units _ _ _ _ (c .before .before .before .figures .given .1) _ (toZ-ofZ w64 (c .signed .result) (record { sfits = c .signed .ok }) ∙ c .signed .ensures ∙ ap (signedOf _) (omega arith)) (c .before .if1 .taken)
 
 -- src/lib.rt:84:1
 returns-2 : tie.Need-returns-2

@@ -1,5 +1,6 @@
 -- `position::judged` meets its contract.
-use mathlib.Core.Path.{_∙_}
+use mathlib.Core.Path.{ap, _∙_}
+use Rattle.number.specs.Reading.{signedOf}
 use mir.Syntax.{w64}
 use mir.ValLaws.{toZ-ofZ}
 use Rattle.position.proofs.Reading.{minutes-outside, seconds-outside, arc-outside, arc-within}
@@ -54,7 +55,7 @@ signed-requires : tie.Need-signed-requires
 signed-requires c κs = search needs
 
 returns-4 : tie.Need-returns-4
-returns-4 c = arc-within _ _ _ (omega arith) (omega arith) _ (omega arith) _ (c .before .before .bound .ensures .0) (c .before .if3 .left) _ (toZ-ofZ w64 (c .signed .result) (record { sfits = c .signed .ok }) ∙ c .signed .ensures)
+returns-4 c = arc-within _ _ _ (omega arith) (omega arith) _ (omega arith) _ (c .before .before .bound .ensures .0) (c .before .if3 .left) _ (toZ-ofZ w64 (c .signed .result) (record { sfits = c .signed .ok }) ∙ c .signed .ensures ∙ ap (signedOf _) (omega arith))
 
 pub judged-spec : {M : Type 1} → statement M
 judged-spec =
