@@ -1,0 +1,44 @@
+-- `layout::kind_of` meets its contract: one kind for each number.
+use Rattle.layout.specs.Packed.{kindOf}
+use borrow.Author.Tests.{ne-eqb}
+use Rattle.layout.proofs.kind_of.Statement.{statement}
+use Rattle.layout.proofs.kind_of.Tie as tie
+
+returns : tie.Need-returns
+unfolding kindOf
+returns c = rw (c .match .keys1)
+
+returns-2 : tie.Need-returns-2
+unfolding kindOf
+returns-2 c = rw (c .match .keys2)
+
+returns-3 : tie.Need-returns-3
+unfolding kindOf
+returns-3 c = rw (c .match .keys3)
+
+returns-4 : tie.Need-returns-4
+unfolding kindOf
+returns-4 c = rw (c .match .keys4)
+
+returns-5 : tie.Need-returns-5
+unfolding kindOf
+returns-5 c = rw (c .match .keys5)
+
+returns-6 : tie.Need-returns-6
+unfolding kindOf
+returns-6 c = rw (c .match .keys6)
+
+returns-7 : tie.Need-returns-7
+unfolding kindOf
+returns-7 c = rw (
+  ne-eqb _ 0 (c .match .rest .0 .0 .0 .0 .0 .1),
+  ne-eqb _ 1 (c .match .rest .0 .0 .0 .0 .1),
+  ne-eqb _ 2 (c .match .rest .0 .0 .0 .1),
+  ne-eqb _ 3 (c .match .rest .0 .0 .1),
+  ne-eqb _ 4 (c .match .rest .0 .1),
+  ne-eqb _ 5 (c .match .rest .1),
+)
+
+pub kind-of-spec : {M : Type 1} → statement M
+kind-of-spec =
+    tie.close (tie.spec returns returns-2 returns-3 returns-4 returns-5 returns-6 returns-7)

@@ -1,0 +1,297 @@
+// The layout table: which codes are read or passed, their labels, their fields with columns and ranges.
+ghost use mathlib.Core.Path.{_≡_};
+ghost use Prim.Native.Nat.{_≤_, _<_};
+ghost use lib.ListN.{length, getD};
+ghost use mathlib.Core.List.{[]};
+ghost use Rattle.layout.specs.Layouts.{byteFits, fitsAt, fits, codes, placeIn, codeOf, fieldsOf, labelOf, fieldOf, allows, isAny, inRange};
+ghost use Rattle.layout.specs.Packed.{layoutCount, patternCount, kindOf, rangeOf, unpack, allCodes, fieldTable, fieldStart, labelStart};
+
+mod rows;
+
+use rows::CODES;
+use rows::FIRST;
+use rows::LABEL;
+use rows::LABELS;
+use rows::LAST;
+use rows::LAYOUTS;
+use rows::NEEDED;
+use rows::PATTERNS;
+use rows::RANGE;
+use rows::SECOND;
+use rows::SIZE;
+use rows::TABLE;
+
+// How a field is spelled. A comment is a text that may begin with blanks.
+pub enum Kind {
+    Text,
+    Comment,
+    Whole,
+    Decimal,
+    Date,
+    Latitude,
+    Longitude,
+}
+
+// The values that a whole number may have: any; from a number up; from one to another; one of three.
+pub enum Range {
+    Any,
+    AtLeast(u64),
+    Between(u64, u64),
+    OneOf(u64, u64, u64),
+}
+
+// A field: its columns count from 1. One of a second set is needed only where that set is present.
+pub struct Field {
+    pub kind: Kind,
+    pub first: usize,
+    pub last: usize,
+    pub needed: bool,
+    pub second: bool,
+    pub range: Range,
+}
+
+// The answer to a field's number.
+pub enum Found {
+    Is(Field),
+    Nothing,
+}
+
+// A card's code: read by the layout with a number, passed, or unknown.
+pub enum Code {
+    Read(usize),
+    Passed,
+    Unknown,
+}
+
+fn byte_fits(pattern: u8, byte: u8) -> bool
+    ensures { λ r. ⌜ r ≡ byteFits pattern byte ⌝ }
+{
+    if pattern == b'@' {
+        return (b'1' <= byte) & (byte <= b'9');
+    }
+    if pattern == b'#' {
+        return (b'0' <= byte) & (byte <= b'9');
+    }
+    pattern == byte
+}
+
+// Whether a code's byte fits the byte of a pattern in the same place.
+fn fits_at(table: &[u8], number: usize, code: &[u8], place: usize) -> bool
+    requires { ⌜ now table ≡ allCodes ⌝ }
+    requires { ⌜ (number < patternCount) × (length (now code) ≡ 5) × (place < 5) ⌝ }
+    ensures { λ r. ⌜ r ≡ fitsAt (getD codes number []) (now (code .entry)) place ⌝ }
+{
+    byte_fits(table[5 * number + place], code[place])
+}
+
+// Whether a code fits a pattern. The third byte, which tells most codes apart, is looked at first.
+fn fits_pattern(table: &[u8], number: usize, code: &[u8]) -> bool
+    requires { ⌜ now table ≡ allCodes ⌝ }
+    requires { ⌜ (number < patternCount) × (length (now code) ≡ 5) ⌝ }
+    ensures { λ r. ⌜ r ≡ fits (getD codes number []) (now (code .entry)) ⌝ }
+{
+    if !fits_at(table, number, code, 2) {
+        return false;
+    }
+    let front = fits_at(table, number, code, 0) & fits_at(table, number, code, 1);
+    front & fits_at(table, number, code, 3) & fits_at(table, number, code, 4)
+}
+
+// The number of the first pattern that a code fits: one byte for most of the patterns before it.
+fn place_in(table: &[u8], code: &[u8]) -> usize
+    requires { ⌜ now table ≡ allCodes ⌝ }
+    requires { ⌜ length (now code) ≡ 5 ⌝ }
+    ensures { λ r. ⌜ r ≡ placeIn codes (now (code .entry)) ⌝ }
+{
+    let mut number = 0;
+    while number < PATTERNS {
+        if fits_pattern(table, number, code) {
+            return number;
+        }
+        number += 1;
+    }
+    number
+}
+
+// What some bytes are as a code: one walk, over the patterns of the layouts for a read code, over the passed ones too for
+// any other. Most patterns cost one byte; the patterns are written out once a call.
+pub fn code_of(code: &[u8]) -> Code
+    ensures { λ r. ⌜ r ≡ codeOf (now (code .entry)) ⌝ }
+{
+    if code.len() != 5 {
+        return Code::Unknown;
+    }
+    let number = place_in(&CODES, code);
+    if number < LAYOUTS {
+        return Code::Read(number);
+    }
+    if number < PATTERNS {
+        return Code::Passed;
+    }
+    Code::Unknown
+}
+
+// The table that the functions below whose names end in `_by` are lent. Whoever asks for many fields holds it once:
+// a constant array is written out anew wherever it is used.
+pub fn table() -> [u64; SIZE]
+    ensures { λ r. ⌜ r ≡ fieldTable ⌝ }
+{
+    TABLE
+}
+
+fn start_by(table: &[u64], layout: usize) -> usize
+    requires { ⌜ (now table ≡ fieldTable) × (layout ≤ layoutCount) ⌝ }
+    ensures { λ r. ⌜ r ≡ fieldStart layout ⌝ }
+{
+    (table[layout] % LABEL) as usize
+}
+
+fn label_start_by(table: &[u64], layout: usize) -> usize
+    requires { ⌜ (now table ≡ fieldTable) × (layout ≤ layoutCount) ⌝ }
+    ensures { λ r. ⌜ r ≡ labelStart layout ⌝ }
+{
+    (table[layout] / LABEL) as usize
+}
+
+// The number of fields of a layout, 0 past the last layout.
+pub fn fields_by(table: &[u64], layout: usize) -> usize
+    requires { ⌜ now table ≡ fieldTable ⌝ }
+    ensures { λ r. ⌜ r ≡ length (fieldsOf layout) ⌝ }
+{
+    if LAYOUTS <= layout {
+        return 0;
+    }
+    start_by(table, layout + 1) - start_by(table, layout)
+}
+
+pub fn fields_in(layout: usize) -> usize
+    ensures { λ r. ⌜ r ≡ length (fieldsOf layout) ⌝ }
+{
+    let table = table();
+    fields_by(&table, layout)
+}
+
+fn kind_of(number: u64) -> Kind
+    ensures { λ r. ⌜ r ≡ kindOf number ⌝ }
+{
+    match number {
+        0 => Kind::Text,
+        1 => Kind::Comment,
+        2 => Kind::Whole,
+        3 => Kind::Decimal,
+        4 => Kind::Date,
+        5 => Kind::Latitude,
+        _ => Kind::Longitude,
+    }
+}
+
+fn range_of(number: u64) -> Range
+    ensures { λ r. ⌜ r ≡ rangeOf number ⌝ }
+{
+    let low = number / 4 % 512;
+    let high = number / 2048 % 512;
+    let other = number / 1048576 % 512;
+    match number % 4 {
+        0 => Range::Any,
+        1 => Range::AtLeast(low),
+        2 => Range::Between(low, high),
+        _ => Range::OneOf(low, high, other),
+    }
+}
+
+fn unpacked(number: u64) -> Field
+    ensures { λ r. ⌜ r ≡ unpack number ⌝ }
+{
+    Field {
+        kind: kind_of(number % 8),
+        first: (number / FIRST % 128) as usize,
+        last: (number / LAST % 128) as usize,
+        needed: number / NEEDED % 2 == 1,
+        second: number / SECOND % 2 == 1,
+        range: range_of(number / RANGE),
+    }
+}
+
+// The field with a number, counted from 1, of a layout.
+pub fn field_by(table: &[u64], layout: usize, number: usize) -> Found
+    requires { ⌜ now table ≡ fieldTable ⌝ }
+    ensures { λ r. ⌜ r ≡ fieldOf layout number ⌝ }
+{
+    if number == 0 {
+        return Found::Nothing;
+    }
+    if fields_by(table, layout) < number {
+        return Found::Nothing;
+    }
+    let place = LAYOUTS + start_by(table, layout) + number;
+    Found::Is(unpacked(table[place]))
+}
+
+pub fn field_of(layout: usize, number: usize) -> Found
+    ensures { λ r. ⌜ r ≡ fieldOf layout number ⌝ }
+{
+    let table = table();
+    field_by(&table, layout, number)
+}
+
+// How many columns, from 6 on, a layout's label fills; 0 where it has none.
+pub fn label_by(table: &[u64], layout: usize) -> usize
+    requires { ⌜ now table ≡ fieldTable ⌝ }
+    ensures { λ r. ⌜ r ≡ length (labelOf layout) ⌝ }
+{
+    if LAYOUTS <= layout {
+        return 0;
+    }
+    label_start_by(table, layout + 1) - label_start_by(table, layout)
+}
+
+pub fn label_length(layout: usize) -> usize
+    ensures { λ r. ⌜ r ≡ length (labelOf layout) ⌝ }
+{
+    let table = table();
+    label_by(&table, layout)
+}
+
+// What a new card has in column 6 + place: the label's byte, and a blank past the label.
+pub fn label_byte(layout: usize, place: usize) -> u8
+    ensures { λ r. ⌜ r ≡ getD (labelOf layout) place 32 ⌝ }
+{
+    let table = table();
+    if label_by(&table, layout) <= place {
+        return 32;
+    }
+    LABELS[label_start_by(&table, layout) + place]
+}
+
+fn is_any(range: Range) -> bool
+    ensures { λ r. ⌜ r ≡ isAny range ⌝ }
+{
+    match range {
+        Range::Any => true,
+        Range::AtLeast(_) => false,
+        Range::Between(_, _) => false,
+        Range::OneOf(_, _, _) => false,
+    }
+}
+
+fn allows_size(range: Range, value: u64) -> bool
+    ensures { λ r. ⌜ r ≡ allows range value ⌝ }
+{
+    match range {
+        Range::Any => true,
+        Range::AtLeast(low) => low <= value,
+        Range::Between(low, high) => (low <= value) & (value <= high),
+        Range::OneOf(a, b, c) => (value == a) | (value == b) | (value == c),
+    }
+}
+
+// Whether a whole number is one of the values that a field may have.
+pub fn in_range(field: Field, value: i64) -> bool
+    ensures { λ r. ⌜ r ≡ inRange (field .range) value ⌝ }
+{
+    let range = field.range;
+    if value < 0 {
+        return is_any(range);
+    }
+    allows_size(range, value as u64)
+}
