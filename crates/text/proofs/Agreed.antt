@@ -29,7 +29,7 @@ blank-behind (b ∷ s) = go (eqb (textEnd s) 0 && eqb b 32) refl (blank-behind s
         rw (sub-zero (suc (length s))) (ap₂ (λ x l. x ∷ l) f r)
     go false q h = rw (suc-sub-suc (length s) (textEnd s)) h
 
-end-le : (s : List ℕ) → textEnd s ≤ length s
+pub end-le : (s : List ℕ) → textEnd s ≤ length s
 unfolding textEnd
 end-le [] = omega arith
 end-le (b ∷ s) = go (eqb (textEnd s) 0 && eqb b 32) (end-le s)
