@@ -1,0 +1,56 @@
+-- `enter_text` is safe: the columns written are within those lent.
+use mathlib.Core.Path.{sym}
+use lib.Seq.{length-take-le}
+use native.Mathlib.Omega.{arith}
+use borrow.Author.Needs.{needs}
+use Rattle.vectors.proofs.fields.enter_text.Statement.{statement}
+use Rattle.vectors.proofs.fields.enter_text.Tie as tie
+
+push-unknown-requires : tie.Need-push-unknown-requires
+push-unknown-requires c κs = search needs
+
+same-length : tie.Need-same-length
+same-length c = search needs
+
+returns : tie.Need-returns
+returns c = search needs
+
+slice-relend-prefix-write-text : tie.Need-slice-relend-prefix-write-text
+slice-relend-prefix-write-text c = search needs
+
+slice-aggregate-write-text : tie.Need-slice-aggregate-write-text
+slice-aggregate-write-text c = sym (length-take-le _ _ (omega arith))
+
+write-text-requires : tie.Need-write-text-requires
+write-text-requires c κs = search needs
+
+front-requires : tie.Need-front-requires
+front-requires c κs = search needs
+
+push-written-requires : tie.Need-push-written-requires
+push-written-requires c κs = search needs
+
+same-length-2 : tie.Need-same-length-2
+same-length-2 c = search needs
+
+same-length-3 : tie.Need-same-length-3
+same-length-3 c = search needs
+
+returns-2 : tie.Need-returns-2
+returns-2 c = search needs
+
+pub enter-text-spec : {M : Type 1} → statement M
+enter-text-spec =
+    tie.close
+    (tie.spec
+    push-unknown-requires
+    same-length
+    returns
+    slice-relend-prefix-write-text
+    slice-aggregate-write-text
+    write-text-requires
+    front-requires
+    push-written-requires
+    same-length-2
+    same-length-3
+    returns-2)
