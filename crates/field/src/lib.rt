@@ -164,7 +164,7 @@ fn second_at(card: &[u8], f: Field) -> bool
 }
 
 // The same of the field with a number; false where there is none.
-fn second_by(card: &[u8], layout: usize, number: usize) -> bool
+pub fn second_by(card: &[u8], layout: usize, number: usize) -> bool
     requires { ⌜ length (now card) ≡ 80 ⌝ }
     ensures { λ r. ⌜ r ≡ secondBy (now (card .entry)) (fieldOf layout number) ⌝ }
 {

@@ -9,8 +9,6 @@ ghost use Rattle.digits.specs.Columns.{rightAdjusted, fits, written};
 ghost use Rattle.number.specs.Reading.{countedOf, figuresOf, signedOf, heldOf, numberOf};
 ghost use Rattle.number.specs.Spelling.{isMinus, signColumns, pointColumns, pointed, plainIn, spelled, unitsIn, decimalIn};
 
-const BLANK: u8 = 32;
-
 const PLUS: u8 = 43;
 
 const MINUS: u8 = 45;

@@ -1,0 +1,162 @@
+// Entering a value or a text into a field of a card: into its columns alone, or not at all.
+use digits::Written;
+use field::Refusal;
+use field::Sought;
+use layout::Field;
+use layout::Found;
+use spelling::Value;
+ghost use mathlib.Core.Path.{_≡_};
+ghost use Prim.Native.Nat.{_≤_, _-_, _+_};
+ghost use lib.ListN.{length, take, drop};
+ghost use mathlib.Core.List.{[]};
+ghost use lib.Dec.{T};
+ghost use Rattle.layout.proofs.Columns.{ranged};
+ghost use Rattle.layout.specs.Layouts.{fieldsOf, fieldOf};
+ghost use Rattle.field.specs.Card.{refusal};
+ghost use Rattle.field.specs.Reading.{spellingOf, secondBy};
+ghost use Rattle.spelling.specs.Writing.{entryOf, textEntryOf};
+ghost use Rattle.entry.specs.Putting.{cameOf, answerOf, leftBy, isAbsent, within, otherSecond, neededAfter, byEntry, width, valuePut, puttingOf, puttingTextOf};
+
+// The answer to an entry; unless it is done the card is as it was.
+pub enum Entered {
+    Done,
+    Refused(Refusal),
+}
+
+// A refusal of an entry on one card.
+fn refused(number: usize, column: usize) -> Entered
+    ensures { λ r. ⌜ r ≡ Entered.Refused (refusal number 1 column) ⌝ }
+{
+    Entered::Refused(Refusal {
+        number,
+        card: 1,
+        column,
+    })
+}
+
+// What came of writing a field's columns, as the answer for its card.
+fn answer_for(written: Written) -> Entered
+    ensures { λ r. ⌜ r ≡ answerOf (cameOf [] written) ⌝ }
+{
+    match written {
+        Written::Done => Entered::Done,
+        Written::Unprintable => refused(4, 0),
+        Written::Malformed => refused(9, 0),
+        Written::OutOfRange => refused(10, 0),
+        Written::OtherKind => refused(12, 0),
+        Written::NoRoom => refused(14, 0),
+    }
+}
+
+// Whether a value is none.
+fn is_absent(v: Value) -> bool
+    ensures { λ r. ⌜ r ≡ isAbsent v ⌝ }
+{
+    if let Value::Absent = v { true } else { false }
+}
+
+// Whether a value lies in its field's range.
+fn is_within(f: Field, v: Value) -> bool
+    ensures { λ r. ⌜ r ≡ within f v ⌝ }
+{
+    match v {
+        Value::Whole(z) => layout::in_range(f, z),
+        _ => true,
+    }
+}
+
+// Whether the second set has a field that is not blank, other than the one with a number.
+fn other_second(card: &[u8], layout: usize, number: usize) -> bool
+    requires { ⌜ length (now card) ≡ 80 ⌝ }
+    ensures { λ r. ⌜ r ≡ otherSecond (now (card .entry)) number 1 (fieldsOf layout) ⌝ }
+{
+    let count = layout::fields_in(layout);
+    let mut n = 0;
+    while n < count {
+        n += 1;
+        if (n != number) & field::second_by(card, layout, n) {
+            return true;
+        }
+    }
+    false
+}
+
+// Whether a field is needed on the card as it stands once the field is blank.
+fn needed_after(card: &[u8], layout: usize, number: usize, f: Field) -> bool
+    requires { ⌜ length (now card) ≡ 80 ⌝ }
+    ensures { λ r. ⌜ r ≡ neededAfter layout (now (card .entry)) number f ⌝ }
+{
+    if !f.needed {
+        return false;
+    }
+    if !f.second {
+        return true;
+    }
+    other_second(card, layout, number)
+}
+
+// Writes a value into its field's columns.
+fn write_value(card: &mut [u8], f: Field, grid: bool, v: Value) -> Entered
+    requires { ⌜ (1 ≤ f .first) × (f .first ≤ f .last) × (f .last ≤ length (now card)) ⌝ }
+    ensures answer { λ r. ⌜ r ≡ answerOf (byEntry f (now (card .entry)) (entryOf (spellingOf (f .kind) grid) (width f) v)) ⌝ }
+    ensures card { λ _. ⌜ now (card .exit) ≡ leftBy (byEntry f (now (card .entry)) (entryOf (spellingOf (f .kind) grid) (width f) v)) (now (card .entry)) ⌝ }
+{
+    let at = f.first - 1;
+    let last = f.last;
+    let kind = f.kind;
+    let spelling = field::spelling_of(kind, grid);
+    answer_for(spelling::write(&mut card[at..last], spelling, v))
+}
+
+// Writes a text into its field's columns.
+fn write_text(card: &mut [u8], f: Field, grid: bool, text: &[u8]) -> Entered
+    requires { ⌜ (1 ≤ f .first) × (f .first ≤ f .last) × (f .last ≤ length (now card)) ⌝ }
+    ensures answer { λ r. ⌜ r ≡ answerOf (byEntry f (now (card .entry)) (textEntryOf (spellingOf (f .kind) grid) (width f) (now (text .entry)))) ⌝ }
+    ensures card { λ _. ⌜ now (card .exit) ≡ leftBy (byEntry f (now (card .entry)) (textEntryOf (spellingOf (f .kind) grid) (width f) (now (text .entry)))) (now (card .entry)) ⌝ }
+{
+    let at = f.first - 1;
+    let last = f.last;
+    let kind = f.kind;
+    let spelling = field::spelling_of(kind, grid);
+    answer_for(spelling::write_text(&mut card[at..last], spelling, text))
+}
+
+// Enters a value into a field that was found.
+fn enter(card: &mut [u8], layout: usize, number: usize, f: Field, grid: bool, v: Value) -> Entered
+    requires { ⌜ (length (now card) ≡ 80) × (1 ≤ f .first) × (f .first ≤ f .last) × (f .last ≤ 80) × T (ranged (f .kind) (f .range)) ⌝ }
+    ensures answer { λ r. ⌜ r ≡ answerOf (valuePut layout (now (card .entry)) number f grid v) ⌝ }
+    ensures card { λ _. ⌜ now (card .exit) ≡ leftBy (valuePut layout (now (card .entry)) number f grid v) (now (card .entry)) ⌝ }
+{
+    if !is_within(f, v) {
+        return refused(10, 0);
+    }
+    if is_absent(v) & needed_after(card, layout, number, f) {
+        let first = f.first;
+        return refused(11, first);
+    }
+    write_value(card, f, grid, v)
+}
+
+// Puts a value into the field with a number of a card, its coordinates in the form that is given.
+pub fn put(card: &mut [u8], number: usize, form: usize, v: Value) -> Entered
+    ensures answer { λ r. ⌜ r ≡ answerOf (puttingOf (now (card .entry)) number form v) ⌝ }
+    ensures card { λ _. ⌜ now (card .exit) ≡ leftBy (puttingOf (now (card .entry)) number form v) (now (card .entry)) ⌝ }
+{
+    let sought = field::seek(card, number, form);
+    match sought {
+        Sought::Refused(r) => Entered::Refused(r),
+        Sought::Is(k, f) => enter(card, k, number, f, form == 1, v),
+    }
+}
+
+// Puts a text into the field with a number of a card.
+pub fn put_text(card: &mut [u8], number: usize, form: usize, text: &[u8]) -> Entered
+    ensures answer { λ r. ⌜ r ≡ answerOf (puttingTextOf (now (card .entry)) number form (now (text .entry))) ⌝ }
+    ensures card { λ _. ⌜ now (card .exit) ≡ leftBy (puttingTextOf (now (card .entry)) number form (now (text .entry))) (now (card .entry)) ⌝ }
+{
+    let sought = field::seek(card, number, form);
+    match sought {
+        Sought::Refused(r) => Entered::Refused(r),
+        Sought::Is(_, f) => write_text(card, f, form == 1, text),
+    }
+}
