@@ -6,7 +6,7 @@ use lib.ListN.{take, drop}
 use lib.Dec.{eqb}
 use Rattle.digits.specs.declared.Written.{Written}
 use Rattle.digits.specs.declared.Written.the-variants as written
-use Rattle.digits.specs.Columns.{Entry, agreed, refused}
+use Rattle.digits.specs.Columns.{Entry, agreed, refused, refusalOf}
 use Rattle.spelling.specs.declared.Value.{Value}
 use Rattle.spelling.specs.declared.Value.the-variants.{Absent, Whole, Decimal, Angle, Date, Text}
 use Rattle.spelling.specs.Writing.{entryOf, textEntryOf}
@@ -80,11 +80,11 @@ isOther (refused written.NoRoom) = false
 -- what came of writing, on a card with the columns s; what is wrong with a value or a text has no column
 unfoldable pub cameOf : List ℕ → Written → Putting
 cameOf s written.Done = placed s
-cameOf s written.Unprintable = stays (refusal 4 1 0)
-cameOf s written.Malformed = stays (refusal 9 1 0)
-cameOf s written.OutOfRange = stays (refusal 10 1 0)
-cameOf s written.OtherKind = stays (refusal 12 1 0)
-cameOf s written.NoRoom = stays (refusal 14 1 0)
+cameOf s written.Unprintable = stays (refusal (refusalOf written.Unprintable) 1 0)
+cameOf s written.Malformed = stays (refusal (refusalOf written.Malformed) 1 0)
+cameOf s written.OutOfRange = stays (refusal (refusalOf written.OutOfRange) 1 0)
+cameOf s written.OtherKind = stays (refusal (refusalOf written.OtherKind) 1 0)
+cameOf s written.NoRoom = stays (refusal (refusalOf written.NoRoom) 1 0)
 
 -- an entry on the card
 unfoldable pub byEntry : Field → List ℕ → Entry → Putting

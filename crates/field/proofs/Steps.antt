@@ -21,7 +21,12 @@ use Rattle.position.specs.declared.Angled.the-variants as angled
 use Rattle.position.specs.declared.Axis.the-variants.{Y, X}
 use Rattle.position.specs.Angles.{angleOf}
 use Rattle.position.specs.Grid.{gridOf}
-use Rattle.text.specs.Texts.{textEnd, leadingBlank}
+use denote.Enum.Declared.{tagOf}
+use types.Run.{OneOf, miss}
+use Rattle.spelling.proofs.Value.{the-type as value-type}
+use Rattle.field.proofs.Judged.{the-type as judged-type}
+use Rattle.field.proofs.Sought.{the-type as sought-type}
+use Rattle.text.specs.Texts.{textEnd, textOf, leadingBlank}
 use Rattle.text.proofs.Agreed.{end-le}
 use Rattle.spelling.specs.declared.Value.{Value}
 use Rattle.spelling.specs.declared.Value.the-variants as value
@@ -43,7 +48,7 @@ use Rattle.field.specs.declared.Judged.the-variants as judged
 use Rattle.field.specs.declared.Sought.{Sought}
 use Rattle.field.specs.declared.Sought.the-variants.{Is, Refused}
 use Rattle.field.specs.Card.{refusal, badAt, firstBad, underForm, coded, soughtOf}
-use Rattle.field.specs.Reading.{secondAt, secondBy, anySecond, columnsOf, isBlank, neededOn, readLast, valueOf, heldOf, spellingOf, judgedOf, answeredOf, fieldOn, fieldReading}
+use Rattle.field.specs.Reading.{secondAt, secondBy, anySecond, columnsOf, isBlank, neededOn, readLast, valueOf, heldOf, spellingOf, judgedOf, answeredOf, fieldOn, fieldReading, holdsText, textOn, fieldText}
 
 -- a byte that is printable, and one that is not
 pub bad-below : (s : List ℕ) (i : ℕ) → getD s i 0 < 32 → badAt s i ≡ true
@@ -277,3 +282,32 @@ pub reading-is : (s : List ℕ) (n form k : ℕ) (f : Field) → soughtOf s n fo
     → answeredOf f j ≡ fieldReading s n form
 unfolding fieldReading fieldOn
 reading-is s n form k f q j e = rw (q, e)
+
+-- whether a field says a text, and the text
+pub text-not : (j : Judged) → OneOf (1 ∷ []) (tagOf judged-type j) → holdsText j ≡ false
+unfolding holdsText
+text-not (judged.Is v) h = absurd (miss (1 ∷ []) 0 tt h)
+text-not (judged.Not n) h = refl
+
+pub text-other : (v : Value) → OneOf (0 ∷ 1 ∷ 2 ∷ 3 ∷ 4 ∷ []) (tagOf value-type v) → holdsText (judged.Is v) ≡ false
+unfolding holdsText
+text-other value.Absent h = refl
+text-other (value.Whole z) h = refl
+text-other (value.Decimal d) h = refl
+text-other (value.Angle z) h = refl
+text-other (value.Date d) h = refl
+text-other (value.Text c) h = absurd (miss (0 ∷ 1 ∷ 2 ∷ 3 ∷ 4 ∷ []) 5 tt h)
+
+pub text-refused : (s : List ℕ) (n form : ℕ) (o : Sought) → soughtOf s n form ≡ o → OneOf (1 ∷ []) (tagOf sought-type o) → fieldText s n form ≡ []
+unfolding fieldText textOn
+text-refused s n form (Is k f) q h = absurd (miss (1 ∷ []) 0 tt h)
+text-refused s n form (Refused r) q h = rw q
+
+module _ (s : List ℕ) (n form k : ℕ) (f : Field) (q : soughtOf s n form ≡ Is k f) (j : Judged) (e : j ≡ judgedOf k s f (eqb form 1)) where
+  pub text-none : holdsText j ≡ false → fieldText s n form ≡ []
+  unfolding fieldText textOn
+  text-none h = rw (q, ← e, h)
+
+  pub text-is : holdsText j ≡ true → (t : List ℕ) → t ≡ take (f .last - (f .first - 1)) (drop (f .first - 1) s) → textOf t ≡ fieldText s n form
+  unfolding fieldText textOn columnsOf
+  text-is h t a = rw (q, ← e, h, a)

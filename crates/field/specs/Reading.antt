@@ -11,7 +11,7 @@ use Rattle.spelling.specs.declared.Reading.{Reading}
 use Rattle.spelling.specs.declared.Reading.the-variants as reading
 use Rattle.spelling.specs.declared.Spelling.{Spelling}
 use Rattle.spelling.specs.declared.Spelling.the-variants as spelled
-use Rattle.spelling.specs.Reading.{readingOf}
+use Rattle.spelling.specs.Reading.{refusalOf, readingOf}
 use Rattle.layout.specs.declared.Kind.{Kind}
 use Rattle.layout.specs.declared.Kind.the-variants as kind
 use Rattle.layout.specs.declared.Field.{Field}
@@ -95,8 +95,8 @@ valueOf needed f (Text c) = Is (onCard f (Text c))
 
 -- a reading held against them: 9, 10 by itself
 unfoldable pub heldOf : Bool → Field → Reading → Judged
-heldOf needed f reading.Malformed = Not 9
-heldOf needed f reading.OutOfRange = Not 10
+heldOf needed f reading.Malformed = Not (refusalOf reading.Malformed)
+heldOf needed f reading.OutOfRange = Not (refusalOf reading.OutOfRange)
 heldOf needed f (reading.Held v) = valueOf needed f v
 
 -- what a field of a card says, or the number of its offence
@@ -115,3 +115,21 @@ fieldOn s grid (sought.Is k f) = answeredOf f (judgedOf k s f grid)
 -- the reading of one field of a card
 unfoldable pub fieldReading : List ℕ → ℕ → ℕ → FieldRead
 fieldReading s n form = fieldOn s (eqb form 1) (soughtOf s n form)
+
+-- whether a field says a text
+unfoldable pub holdsText : Judged → Bool
+holdsText (Not n) = false
+holdsText (Is Absent) = false
+holdsText (Is (Whole z)) = false
+holdsText (Is (Decimal d)) = false
+holdsText (Is (Angle z)) = false
+holdsText (Is (Date d)) = false
+holdsText (Is (Text c)) = true
+
+unfoldable pub textOn : List ℕ → Bool → Sought → List ℕ
+textOn s grid (sought.Refused r) = []
+textOn s grid (sought.Is k f) = cond (holdsText (judgedOf k s f grid)) (textOf (columnsOf f s)) []
+
+-- the text in one field of a card, empty where there is none
+unfoldable pub fieldText : List ℕ → ℕ → ℕ → List ℕ
+fieldText s n form = textOn s (eqb form 1) (soughtOf s n form)

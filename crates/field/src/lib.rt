@@ -1,4 +1,4 @@
-// One field of one card: found by its number, read, and entered.
+// One field of one card: found by its number, and read.
 use layout::Code;
 use layout::Field;
 use layout::Found;
@@ -12,7 +12,7 @@ ghost use Prim.Native.Nat.{_≤_, _<_, _-_};
 ghost use lib.ListN.{length, take, drop};
 ghost use Rattle.layout.specs.Layouts.{fieldsOf, fieldOf};
 ghost use Rattle.field.specs.Card.{refusal, firstBad, underForm, soughtOf};
-ghost use Rattle.field.specs.Reading.{columnsOf, isBlank, spellingOf, secondAt, secondBy, anySecond, neededOn, textLast, readLast, valueOf, heldOf, judgedOf, answeredOf, fieldReading};
+ghost use Rattle.field.specs.Reading.{columnsOf, isBlank, spellingOf, secondAt, secondBy, anySecond, neededOn, textLast, readLast, valueOf, heldOf, judgedOf, answeredOf, fieldReading, holdsText, fieldText};
 
 const CARD: usize = 80;
 
@@ -284,4 +284,30 @@ pub fn read_field(card: &[u8], number: usize, form: usize) -> FieldRead
         Sought::Refused(r) => FieldRead::Refused(r),
         Sought::Is(k, f) => answered(f, judge(card, k, f, form == 1)),
     }
+}
+
+// Whether a field says a text.
+fn holds_text(j: Judged) -> bool
+    ensures { λ r. ⌜ r ≡ holdsText j ⌝ }
+{
+    let Judged::Is(v) = j else {
+        return false;
+    };
+    if let Value::Text(_) = v { true } else { false }
+}
+
+// The text in the field with a number, as a part of the caller's own card; empty where there is none.
+pub fn read_text(card: &[u8], number: usize, form: usize) -> &[u8]
+    ensures { λ r. ⌜ now r ≡ fieldText (now (card .entry)) number form ⌝ }
+{
+    let sought = seek(card, number, form);
+    let Sought::Is(k, f) = sought else {
+        return &card[..0];
+    };
+    if !holds_text(judge(card, k, f, form == 1)) {
+        return &card[..0];
+    }
+    let first = f.first;
+    let last = f.last;
+    text::stretch(columns(card, first, last))
 }
