@@ -1,0 +1,81 @@
+-- An entry changes no column outside its field, and a refused one changes none.
+use Prim.Native.Nat.{ℕ, _+_, _-_, _≤_}
+use native.Mathlib.Omega.{arith}
+use mathlib.Core.Path.{_≡_, refl, sym, ap, subst, _∙_}
+use mathlib.Core.List.{List, [], _∷_, _++_, append-assoc}
+use mathlib.Core.Bool.{Bool, true, false, cond, _&&_}
+use lib.ListN.{length, take, drop}
+use borrow.Rule.Slice.PartMut.{putMid, same-len-mid, take-put, drop-put}
+use Rattle.digits.specs.declared.Written.{Written}
+use Rattle.digits.specs.declared.Written.the-variants as written
+use Rattle.digits.specs.Columns.{Entry, agreed, refused}
+use Rattle.spelling.specs.declared.Value.{Value}
+use Rattle.spelling.specs.Writing.{entryOf, textEntryOf}
+use Rattle.spelling.proofs.Absence.{zero-one}
+use Rattle.spelling.proofs.Back.{value-back, text-read-back}
+use Rattle.layout.specs.declared.Field.{Field}
+use Rattle.field.specs.declared.Refusal.{Refusal}
+use Rattle.field.specs.declared.Sought.{Sought}
+use Rattle.field.specs.declared.Sought.the-variants as sought
+use Rattle.field.specs.Card.{refusal, soughtOf}
+use Rattle.field.specs.Reading.{spellingOf}
+use Rattle.entry.specs.Putting.{Putting, placed, stays, leftBy, width, placedIn, isAbsent, within, neededAfter, isOther, cameOf, byEntry, valuePut, puttingOf, puttingTextOf}
+use Rattle.entry.proofs.Steps.{value-is, text-is, field-fits, columns-wide}
+
+-- the columns before a field and behind it are the same on two cards, and so is their number
+pub record Outside (f : Field) (s t : List ℕ) : Type 0 where
+  pub before : take (f .first - 1) t ≡ take (f .first - 1) s
+  pub behind : drop (f .last) t ≡ drop (f .last) s
+  pub length-is : length t ≡ length s
+
+same-card : (f : Field) (s : List ℕ) → Outside f s s
+same-card f s = record { before = refl; behind = refl; length-is = refl }
+
+module _ (s : List ℕ) (f : Field) (low : 1 ≤ f .first) (order : f .first ≤ f .last) (on : f .last ≤ length s) where
+  placed-outside : (t : List ℕ) → length t ≡ width f → Outside f s (placedIn f s t)
+  unfolding placedIn
+  placed-outside t h =
+      record {
+        before = take-put (f .first - 1) (width f) s t (omega arith);
+        behind = drop-put (f .first - 1) (f .last) s t (omega arith) on h;
+        length-is = same-len-mid (f .first - 1) (width f) s t (h ∙ sym (columns-wide s (f .first - 1) (f .last) (omega arith) on));
+      }
+
+  entry-outside : (e : Entry) → ((t : List ℕ) → e ≡ agreed t → length t ≡ width f) → Outside f s (leftBy (byEntry f s e) s)
+  unfolding byEntry cameOf
+  entry-outside (agreed t) h = placed-outside t (h t refl)
+  entry-outside (refused written.Done) h = same-card f s
+  entry-outside (refused written.Unprintable) h = same-card f s
+  entry-outside (refused written.Malformed) h = same-card f s
+  entry-outside (refused written.OutOfRange) h = same-card f s
+  entry-outside (refused written.OtherKind) h = same-card f s
+  entry-outside (refused written.NoRoom) h = same-card f s
+
+  value-outside : (k n : ℕ) (grid : Bool) (v : Value) → Outside f s (leftBy (valuePut k s n f grid v) s)
+  unfolding valuePut
+  value-outside k n grid v = go (isOther e) (isAbsent v && neededAfter k s n f) (within f v)
+    where
+      e : Entry
+      e = entryOf (spellingOf (f .kind) grid) (width f) v
+
+      go : (a b c : Bool)
+          → Outside f s (leftBy (cond a (stays (refusal 12 1 0)) (cond b (stays (refusal 11 1 (f .first))) (cond c (byEntry f s (entryOf (spellingOf (f .kind) grid) (width f) v)) (stays (refusal 10 1 0))))) s)
+      go true b c = same-card f s
+      go false true c = same-card f s
+      go false false true =
+          entry-outside (entryOf (spellingOf (f .kind) grid) (width f) v) (λ t q. value-back (width f) t (spellingOf (f .kind) grid) v q .1)
+      go false false false = same-card f s
+
+-- a put of a value, and of a text
+module _ (s : List ℕ) (n form k : ℕ) (f : Field) (q : soughtOf s n form ≡ sought.Is k f) where
+  pub value-untouched : (v : Value) → Outside f s (leftBy (puttingOf s n form v) s)
+  value-untouched v =
+      let h = field-fits s n form k f q in
+      subst (λ (p : Putting). Outside f s (leftBy p s)) (sym (value-is s n form k f q _ refl v))
+      (value-outside s f (h .1) (h .2) (omega (arith, h .0, h .3)) k n _ v)
+
+  pub text-untouched : (x : List ℕ) → Outside f s (leftBy (puttingTextOf s n form x) s)
+  text-untouched x =
+      let h = field-fits s n form k f q in
+      subst (λ (p : Putting). Outside f s (leftBy p s)) (sym (text-is s n form k f q _ refl x))
+      (entry-outside s f (h .1) (h .2) (omega (arith, h .0, h .3)) (textEntryOf _ (width f) x) (λ t e. text-read-back _ (width f) x t e .1))
