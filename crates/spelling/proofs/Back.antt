@@ -34,10 +34,10 @@ use Rattle.spelling.proofs.Absence.{blank-read}
 abbrev pub ReadsBack : (List ℕ → Reading) → ℕ → Value → List ℕ → Type 0
 ReadsBack says w v t = (says t ≡ Held v) × (length t ≡ w)
 
-never : {why : Written} {t : List ℕ} → refused why ≡ agreed t → ⊥
+pub never : {why : Written} {t : List ℕ} → refused why ≡ agreed t → ⊥
 never e = let x : _≡_ {A = ℕ} 0 1 = cc in omega arith
 
-room-is : (o : Option (List ℕ)) (t : List ℕ) → roomOf o ≡ agreed t → o ≡ some t
+pub room-is : (o : Option (List ℕ)) (t : List ℕ) → roomOf o ≡ agreed t → o ≡ some t
 room-is (some u) t e = let q : u ≡ t = cc in ap some q
 room-is none t e = absurd (never e)
 

@@ -3,3 +3,4 @@ pub mod Edge
 pub mod Absence
 pub mod Back
 pub mod Agreed
+pub mod Printed

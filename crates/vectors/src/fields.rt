@@ -1,12 +1,10 @@
 // The commands on one field's columns: read, text, write and put.
-use crate::page;
-use crate::script;
-use crate::script::Count;
-use crate::values;
-use crate::values::Offer;
 use digits::Written;
+use script::Count;
+use script::page;
 use spelling::Spelling;
 use spelling::Value;
+use values::Offer;
 
 // A spelling, or what is none.
 enum Kind {

@@ -1,8 +1,7 @@
 // Answers a script of commands line by line; the answers asked for are written down in advance.
 mod fields;
-mod page;
-mod script;
-mod values;
+
+use script::page;
 
 // The answer to one command.
 fn answer(line: &[u8], out: &mut [u8], n: usize) -> usize {

@@ -1,13 +1,14 @@
--- `set_columns` is safe and ends: each turn passes one column.
+-- `set_columns` sets no more columns than there are: each turn passes one.
 use lib.ListN.{length}
 use mathlib.Core.Path.{_≡_}
 use Prim.Native.Nat.{_≤_, _-_}
 use borrow.Author.Needs.{needs}
-use Rattle.vectors.proofs.script.set_columns.Statement.{statement}
-use Rattle.vectors.proofs.script.set_columns.Tie as tie
+use Rattle.script.proofs.set_columns.Statement.{statement}
+use Rattle.script.proofs.set_columns.Tie as tie
 
 abbrev Inv-loop : tie.InvT-loop
-Inv-loop s columns₀ i₀ columns i = (i ≤ length s) × (length columns ≡ length columns₀)
+Inv-loop s columns₀ i₀ columns i =
+    (i ≤ length s) × (i ≤ length columns₀) × (length columns ≡ length columns₀)
 
 abbrev μ-loop : tie.MeasureT-loop
 μ-loop s columns₀ i₀ columns i = length s - i

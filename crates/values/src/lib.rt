@@ -1,10 +1,11 @@
 // Values: as a script spells them, and as an answer does.
-use crate::page;
-use crate::script;
-use crate::script::Count;
-use crate::script::Signed;
+ghost use Prim.Native.Nat.{_≤_, max};
+ghost use lib.ListN.{length};
 use date::Date;
 use number::Decimal;
+use script::Count;
+use script::Signed;
+use script::page;
 use spelling::Columns;
 use spelling::Reading;
 use spelling::Value;
@@ -19,14 +20,6 @@ pub enum Offer {
 enum Small {
     Is(u32),
     Not,
-}
-
-// Whether two texts are the same.
-fn same(s: &[u8], text: &[u8]) -> bool {
-    if s.len() != text.len() {
-        return false;
-    }
-    script::begins(s, text)
 }
 
 // A whole number.
@@ -102,7 +95,7 @@ fn text_in(s: &[u8]) -> Offer {
 // The value that the words spell.
 pub fn value_in(s: &[u8]) -> Offer {
     let rest = script::next(s);
-    if same(s, b"absent") {
+    if script::same(s, b"absent") {
         return Offer::Is(Value::Absent);
     }
     if script::begins(s, b"whole ") {
@@ -123,15 +116,30 @@ pub fn value_in(s: &[u8]) -> Offer {
     Offer::Not
 }
 
+// Puts a number that may be below zero behind a blank.
+fn push_signed(out: &mut [u8], n: usize, z: i64) -> usize
+    ensures { λ r. ⌜ r ≤ max n (length (now (out .entry))) ⌝ }
+{
+    if number::below_zero(z) {
+        let end = page::push_all(out, n, b" -");
+        return page::push_number(out, end, number::magnitude(z));
+    }
+    page::push_next(out, n, number::magnitude(z))
+}
+
 // Puts units and places.
-fn push_decimal(out: &mut [u8], n: usize, d: Decimal) -> usize {
+fn push_decimal(out: &mut [u8], n: usize, d: Decimal) -> usize
+    ensures { λ r. ⌜ r ≤ max n (length (now (out .entry))) ⌝ }
+{
     let named = page::push_all(out, n, b"decimal");
-    let told = page::push_signed(out, named, d.units);
+    let told = push_signed(out, named, d.units);
     page::push_next(out, told, d.places as u64)
 }
 
 // Puts year, month and day.
-fn push_date(out: &mut [u8], n: usize, d: Date) -> usize {
+fn push_date(out: &mut [u8], n: usize, d: Date) -> usize
+    ensures { λ r. ⌜ r ≤ max n (length (now (out .entry))) ⌝ }
+{
     let named = page::push_all(out, n, b"date");
     let year = page::push_next(out, named, d.year as u64);
     let month = page::push_next(out, year, d.month as u64);
@@ -139,20 +147,26 @@ fn push_date(out: &mut [u8], n: usize, d: Date) -> usize {
 }
 
 // Puts the first and the last column of a text.
-fn push_text(out: &mut [u8], n: usize, c: Columns) -> usize {
+fn push_text(out: &mut [u8], n: usize, c: Columns) -> usize
+    ensures { λ r. ⌜ r ≤ max n (length (now (out .entry))) ⌝ }
+{
     let named = page::push_all(out, n, b"text");
     let first = page::push_next(out, named, c.first as u64);
     page::push_next(out, first, c.last as u64)
 }
 
 // Puts a word and a number.
-fn push_named(out: &mut [u8], n: usize, name: &[u8], z: i64) -> usize {
+fn push_named(out: &mut [u8], n: usize, name: &[u8], z: i64) -> usize
+    ensures { λ r. ⌜ r ≤ max n (length (now (out .entry))) ⌝ }
+{
     let named = page::push_all(out, n, name);
-    page::push_signed(out, named, z)
+    push_signed(out, named, z)
 }
 
 // Puts a value.
-fn push_value(out: &mut [u8], n: usize, v: Value) -> usize {
+fn push_value(out: &mut [u8], n: usize, v: Value) -> usize
+    ensures { λ r. ⌜ r ≤ max n (length (now (out .entry))) ⌝ }
+{
     match v {
         Value::Absent => page::push_all(out, n, b"absent"),
         Value::Whole(z) => push_named(out, n, b"whole", z),
@@ -164,7 +178,9 @@ fn push_value(out: &mut [u8], n: usize, v: Value) -> usize {
 }
 
 // Puts what stands in a field, or the number of its refusal.
-pub fn push_reading(out: &mut [u8], n: usize, r: Reading) -> usize {
+pub fn push_reading(out: &mut [u8], n: usize, r: Reading) -> usize
+    ensures { λ r. ⌜ r ≤ max n (length (now (out .entry))) ⌝ }
+{
     match r {
         Reading::Held(v) => push_value(out, n, v),
         Reading::Malformed => page::push_number(out, n, 9),

@@ -1,13 +1,14 @@
 -- `push_all` is safe and ends: each turn passes one byte.
 use lib.ListN.{length}
 use mathlib.Core.Path.{_≡_}
-use Prim.Native.Nat.{_≤_, _-_}
+use Prim.Native.Nat.{_≤_, _-_, max}
 use borrow.Author.Needs.{needs}
-use Rattle.vectors.proofs.page.push_all.Statement.{statement}
-use Rattle.vectors.proofs.page.push_all.Tie as tie
+use Rattle.script.proofs.page.push_all.Statement.{statement}
+use Rattle.script.proofs.page.push_all.Tie as tie
 
 abbrev Inv-loop : tie.InvT-loop
-Inv-loop out₀ n s end₀ i₀ out end i = (i ≤ length s) × (length out ≡ length out₀)
+Inv-loop out₀ n s end₀ i₀ out end i =
+    (i ≤ length s) × (length out ≡ length out₀) × (end ≤ max n (length out₀))
 
 abbrev μ-loop : tie.MeasureT-loop
 μ-loop out₀ n s end₀ i₀ out end i = length s - i

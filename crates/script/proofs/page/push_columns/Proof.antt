@@ -3,8 +3,8 @@ use lib.ListN.{length}
 use mathlib.Core.Path.{_≡_}
 use Prim.Native.Nat.{_≤_, _-_}
 use borrow.Author.Needs.{needs}
-use Rattle.vectors.proofs.page.push_columns.Statement.{statement}
-use Rattle.vectors.proofs.page.push_columns.Tie as tie
+use Rattle.script.proofs.page.push_columns.Statement.{statement}
+use Rattle.script.proofs.page.push_columns.Tie as tie
 
 abbrev Inv-loop : tie.InvT-loop
 Inv-loop out₀ n s end₀ i₀ out end i = (i ≤ length s) × (length out ≡ length out₀)

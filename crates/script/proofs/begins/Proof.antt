@@ -1,12 +1,13 @@
--- `begins` is safe and ends: each turn passes one byte of the text.
+-- `begins` answers that s begins with a text only where s is as long: each turn passes one byte of both.
+use mathlib.Core.Bool.{false≢true}
 use lib.ListN.{length}
 use Prim.Native.Nat.{_≤_, _-_}
 use borrow.Author.Needs.{needs}
-use Rattle.vectors.proofs.script.begins.Statement.{statement}
-use Rattle.vectors.proofs.script.begins.Tie as tie
+use Rattle.script.proofs.begins.Statement.{statement}
+use Rattle.script.proofs.begins.Tie as tie
 
 abbrev Inv-loop : tie.InvT-loop
-Inv-loop s text i₀ i = i ≤ length text
+Inv-loop s text i₀ i = (i ≤ length text) × (i ≤ length s)
 
 abbrev μ-loop : tie.MeasureT-loop
 μ-loop s text i₀ i = length text - i
@@ -15,7 +16,7 @@ loop-holds : tie.Need-loop-holds Inv-loop μ-loop
 loop-holds c = search needs
 
 returns : tie.Need-returns Inv-loop μ-loop
-returns c = search needs
+returns c q = absurd (false≢true q)
 
 shared-slice-read-if2 : tie.Need-shared-slice-read-if2 Inv-loop μ-loop
 shared-slice-read-if2 c = search needs
@@ -24,7 +25,7 @@ shared-slice-read-if2-2 : tie.Need-shared-slice-read-if2-2 Inv-loop μ-loop
 shared-slice-read-if2-2 c = search needs
 
 returns-2 : tie.Need-returns-2 Inv-loop μ-loop
-returns-2 c = search needs
+returns-2 c q = absurd (false≢true q)
 
 add-i : tie.Need-add-i Inv-loop μ-loop
 add-i c = search needs

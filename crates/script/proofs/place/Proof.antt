@@ -2,8 +2,8 @@
 use lib.ListN.{length}
 use Prim.Native.Nat.{_≤_, _-_}
 use borrow.Author.Needs.{needs}
-use Rattle.vectors.proofs.script.place.Statement.{statement}
-use Rattle.vectors.proofs.script.place.Tie as tie
+use Rattle.script.proofs.place.Statement.{statement}
+use Rattle.script.proofs.place.Tie as tie
 
 abbrev Inv-loop : tie.InvT-loop
 Inv-loop s b i₀ i = i ≤ length s

@@ -7,8 +7,8 @@ use mir.Syntax.{w64}
 use mir.Val.{SFits, toZ}
 use mir.ValLaws.{toZ-pos}
 use borrow.Author.Needs.{needs}
-use Rattle.vectors.proofs.script.negative.Statement.{statement}
-use Rattle.vectors.proofs.script.negative.Tie as tie
+use Rattle.script.proofs.negative.Statement.{statement}
+use Rattle.script.proofs.negative.Tie as tie
 
 -- minus a number that fits
 minus-small : (n : ℕ) → n < 2 ^ 63 → SFits w64 (negℤ (pos n))

@@ -2,8 +2,8 @@
 use lib.ListN.{length}
 use Prim.Native.Nat.{_≤_, _-_}
 use borrow.Author.Needs.{needs}
-use Rattle.vectors.proofs.script.count_in.Statement.{statement}
-use Rattle.vectors.proofs.script.count_in.Tie as tie
+use Rattle.script.proofs.count_in.Statement.{statement}
+use Rattle.script.proofs.count_in.Tie as tie
 
 abbrev Inv-loop : tie.InvT-loop
 Inv-loop s n₀ i₀ n i = i ≤ length s

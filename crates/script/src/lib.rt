@@ -1,6 +1,12 @@
 // The script: its lines, their words, and what numbers and columns stand in them.
-ghost use Prim.Native.Nat.{_≤_, _<_};
-ghost use lib.ListN.{length};
+pub mod page;
+
+ghost use mathlib.Core.Path.{_≡_};
+ghost use mathlib.Core.Bool.{true, _||_};
+ghost use Prim.Native.Nat.{_≤_, _<_, min};
+ghost use lib.Dec.{eqb};
+ghost use lib.ListN.{length, take, getD};
+ghost use Rattle.script.specs.Counts.{numberOf};
 
 const BLANK: u8 = 32;
 
@@ -36,7 +42,10 @@ fn place(s: &[u8], b: u8) -> usize
 }
 
 // The first n bytes, or all.
-pub fn front(s: &[u8], n: usize) -> &[u8] {
+pub fn front(s: &[u8], n: usize) -> &[u8]
+    ensures bytes { λ r. ⌜ now r ≡ take n (now (s .entry)) ⌝ }
+    ensures size { λ r. ⌜ length (now r) ≤ length (now (s .entry)) ⌝ }
+{
     if n < s.len() {
         return &s[..n];
     }
@@ -44,7 +53,9 @@ pub fn front(s: &[u8], n: usize) -> &[u8] {
 }
 
 // What stands behind the first b, empty where there is none.
-fn behind(s: &[u8], b: u8) -> &[u8] {
+fn behind(s: &[u8], b: u8) -> &[u8]
+    ensures { λ r. ⌜ length (now r) ≤ length (now (s .entry)) ⌝ }
+{
     let at = place(s, b);
     if at < s.len() {
         return &s[at + 1..];
@@ -54,8 +65,7 @@ fn behind(s: &[u8], b: u8) -> &[u8] {
 
 // The bytes that the first line takes, its end included.
 pub fn line_size(s: &[u8]) -> usize
-    requires { ⌜ 0 < length (now s) ⌝ }
-    ensures { λ r. ⌜ (0 < r) × (r ≤ length (now (s .entry))) ⌝ }
+    ensures { λ r. ⌜ (min 1 (length (now (s .entry))) ≤ r) × (r ≤ length (now (s .entry))) ⌝ }
 {
     let at = place(s, b'\n');
     if at < s.len() {
@@ -65,22 +75,30 @@ pub fn line_size(s: &[u8]) -> usize
 }
 
 // The first line, without its end.
-pub fn line_in(s: &[u8]) -> &[u8] {
+pub fn line_in(s: &[u8]) -> &[u8]
+    ensures { λ r. ⌜ length (now r) ≤ length (now (s .entry)) ⌝ }
+{
     front(s, place(s, b'\n'))
 }
 
 // The first word.
-pub fn word(s: &[u8]) -> &[u8] {
+pub fn word(s: &[u8]) -> &[u8]
+    ensures { λ r. ⌜ length (now r) ≤ length (now (s .entry)) ⌝ }
+{
     front(s, place(s, BLANK))
 }
 
 // What stands behind the first word and its blank.
-pub fn next(s: &[u8]) -> &[u8] {
+pub fn next(s: &[u8]) -> &[u8]
+    ensures { λ r. ⌜ length (now r) ≤ length (now (s .entry)) ⌝ }
+{
     behind(s, BLANK)
 }
 
 // Whether a line is empty or a title.
-pub fn is_title(line: &[u8]) -> bool {
+pub fn is_title(line: &[u8]) -> bool
+    ensures { λ r. ⌜ r ≡ eqb (length (now (line .entry))) 0 || eqb (getD (now (line .entry)) 0 0) 35 ⌝ }
+{
     if line.len() == 0 {
         return true;
     }
@@ -88,7 +106,9 @@ pub fn is_title(line: &[u8]) -> bool {
 }
 
 // Whether s begins with a text.
-pub fn begins(s: &[u8], text: &[u8]) -> bool {
+pub fn begins(s: &[u8], text: &[u8]) -> bool
+    ensures { λ r. ⌜ (r ≡ true → length (now (text .entry)) ≤ length (now (s .entry))) ⌝ }
+{
     let mut i = 0;
     while i < text.len() {
         if s.len() <= i {
@@ -100,6 +120,16 @@ pub fn begins(s: &[u8], text: &[u8]) -> bool {
         i += 1;
     }
     true
+}
+
+// Whether two texts are the same.
+pub fn same(s: &[u8], text: &[u8]) -> bool
+    ensures { λ r. ⌜ (r ≡ true → length (now (s .entry)) ≡ length (now (text .entry))) ⌝ }
+{
+    if s.len() != text.len() {
+        return false;
+    }
+    begins(s, text)
 }
 
 // A number with one more digit behind it.
@@ -178,7 +208,9 @@ fn meant(b: u8) -> u8 {
 }
 
 // Sets the columns to what s stands for, and answers how many these are.
-fn set_columns(s: &[u8], columns: &mut [u8]) -> Count {
+fn set_columns(s: &[u8], columns: &mut [u8]) -> Count
+    ensures { λ r. ⌜ numberOf r ≤ length (now (columns .entry)) ⌝ }
+{
     let mut i = 0;
     while i < s.len() {
         if columns.len() <= i {
@@ -191,7 +223,9 @@ fn set_columns(s: &[u8], columns: &mut [u8]) -> Count {
 }
 
 // Sets the columns to what stands between the bars, and answers how many these are.
-pub fn columns_in(s: &[u8], columns: &mut [u8]) -> Count {
+pub fn columns_in(s: &[u8], columns: &mut [u8]) -> Count
+    ensures { λ r. ⌜ numberOf r ≤ length (now (columns .entry)) ⌝ }
+{
     if s.len() < 2 {
         return Count::Not;
     }
