@@ -311,3 +311,16 @@ module _ (s : List ℕ) (n form k : ℕ) (f : Field) (q : soughtOf s n form ≡ 
   pub text-is : holdsText j ≡ true → (t : List ℕ) → t ≡ take (f .last - (f .first - 1)) (drop (f .first - 1) s) → textOf t ≡ fieldText s n form
   unfolding fieldText textOn columnsOf
   text-is h t a = rw (q, ← e, h, a)
+
+-- a card on which a field was found has a code and no bad byte
+pub found-coded : (s : List ℕ) (n form k : ℕ) (f : Field) → soughtOf s n form ≡ Is k f → (80 ≤ firstBad s) × (coded (codeOf (take 5 s)) n form ≡ Is k f)
+unfolding soughtOf
+found-coded s n form k f e = go (eqb (length s) 0) (not (eqb (length s) 80)) (ltb (firstBad s) 80) refl e
+  where
+    go : (a b c : Bool) → ltb (firstBad s) 80 ≡ c
+      → cond a (Refused (refusal 1 0 0)) (cond b (Refused (refusal 2 0 0)) (cond c (Refused (refusal 4 1 (firstBad s + 1))) (coded (codeOf (take 5 s)) n form))) ≡ Is k f
+      → (80 ≤ firstBad s) × (coded (codeOf (take 5 s)) n form ≡ Is k f)
+    go true b c q h = absurd (zero-one cc)
+    go false true c q h = absurd (zero-one cc)
+    go false false true q h = absurd (zero-one cc)
+    go false false false q h = (ltb-false (firstBad s) 80 q, h)

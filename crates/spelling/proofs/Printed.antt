@@ -40,7 +40,7 @@ one : (b : ℕ) (s : List ℕ) → 32 ≤ b → b ≤ 126 → printable s ≡ tr
 unfolding printable
 one b s l m h = rw (le-leb 32 b l, le-leb b 126 m) h
 
-both : (s t : List ℕ) → printable s ≡ true → printable t ≡ true → printable (s ++ t) ≡ true
+pub both : (s t : List ℕ) → printable s ≡ true → printable t ≡ true → printable (s ++ t) ≡ true
 unfolding printable
 both [] t h k = k
 both (b ∷ s) t h k =

@@ -49,7 +49,7 @@ end-front (b ∷ s) = go (eqb (textEnd s) 0 && eqb b 32) refl (end-front s)
     go true q h = refl
     go false q h = rw (h, q)
 
-printable-front : (k : ℕ) (s : List ℕ) → printable s ≡ true → printable (take k s) ≡ true
+pub printable-front : (k : ℕ) (s : List ℕ) → printable s ≡ true → printable (take k s) ≡ true
 unfolding printable
 printable-front zero s h = refl
 printable-front (suc k) [] h = refl
