@@ -13,19 +13,20 @@ use Rattle.text.specs.Texts.{textOf, printable}
 use Rattle.text.proofs.Agreed.{printable-front}
 use Rattle.spelling.specs.declared.Value.{Value}
 use Rattle.spelling.specs.declared.Value.the-variants.{Absent, Whole, Decimal, Angle, Date, Text}
+use Rattle.spelling.specs.declared.Reading.{Reading}
 use Rattle.spelling.specs.declared.Reading.the-variants as reading
-use Rattle.spelling.specs.Reading.{readingOf}
-use Rattle.spelling.specs.Writing.{entryOf}
-use Rattle.spelling.proofs.Back.{value-back}
-use Rattle.spelling.proofs.Printed.{both, value-printed}
+use Rattle.spelling.specs.Reading.{readingOf, isText, textRead}
+use Rattle.spelling.specs.Writing.{entryOf, textEntryOf}
+use Rattle.spelling.proofs.Back.{value-back, text-read-back as field-text-back}
+use Rattle.spelling.proofs.Printed.{both, value-printed, text-printed}
 use Rattle.layout.specs.declared.Field.{Field}
-use Rattle.layout.specs.Layouts.{codeOf}
+use Rattle.layout.specs.Layouts.{codeOf, inRange}
 use Rattle.layout.proofs.Numbers.{found-lies}
 use Rattle.field.specs.declared.Judged.the-variants as judged
 use Rattle.field.specs.declared.FieldRead.the-variants as read
 use Rattle.field.specs.declared.Sought.the-variants as sought
 use Rattle.field.specs.Card.{coded, soughtOf, firstBad}
-use Rattle.field.specs.Reading.{columnsOf, spellingOf, neededOn, valueOf, heldOf, judgedOf, answeredOf, fieldReading, holdsText}
+use Rattle.field.specs.Reading.{columnsOf, spellingOf, neededOn, valueOf, heldOf, judgedOf, answeredOf, fieldReading, holdsText, textOn, fieldText}
 use Rattle.field.proofs.Steps.{found-there, found-coded, sought-coded, reading-is}
 use Rattle.entry.specs.Putting.{width, placedIn, isAbsent, within}
 use Rattle.entry.proofs.Bytes.{none-bad, bad-none, rest-printable}
@@ -33,7 +34,7 @@ use Rattle.entry.proofs.Steps.{columns-wide}
 
 -- a card with other bytes in a field's columns, as many and printable
 module _ (s : List ℕ) (n form k : ℕ) (f : Field) (q : soughtOf s n form ≡ sought.Is k f)
-  (t : List ℕ) (wide : length t ≡ width f) (printed : printable t ≡ true) where
+    (t : List ℕ) (wide : length t ≡ width f) (printed : printable t ≡ true) where
   whole : length s ≡ 80
   whole = found-there s n form k f q .whole
 
@@ -94,8 +95,8 @@ held-again needed f (Text c) a x h = absurd (true≢false x)
 
 -- a value that was put into a field is read from it
 pub value-read-back : (s : List ℕ) (n form k : ℕ) (f : Field) → soughtOf s n form ≡ sought.Is k f → (v : Value) (t : List ℕ)
-  → entryOf (spellingOf (f .kind) (eqb form 1)) (width f) v ≡ agreed t → within f v ≡ true → isAbsent v ≡ false → holdsText (judged.Is v) ≡ false
-  → fieldReading (placedIn f s t) n form ≡ read.Is v
+    → entryOf (spellingOf (f .kind) (eqb form 1)) (width f) v ≡ agreed t → within f v ≡ true → isAbsent v ≡ false → holdsText (judged.Is v) ≡ false
+    → fieldReading (placedIn f s t) n form ≡ read.Is v
 unfolding answeredOf heldOf judgedOf
 value-read-back s n form k f q v t e h a x =
     let sp = spellingOf (f .kind) (eqb form 1) in
@@ -106,3 +107,37 @@ value-read-back s n form k f q v t e h a x =
     ∙ ap (λ c. answeredOf f (heldOf (neededOn k card f) f (readingOf sp c))) (now-holds s n form k f q t (b .1) p)
     ∙ ap (λ r. answeredOf f (heldOf (neededOn k card f) f r)) (b .0)
     ∙ ap (answeredOf f) (held-again (neededOn k card f) f v a x h)
+
+-- need and range do not turn a text into none
+texts-alike : (needed : Bool) (f : Field) (r : Reading) → holdsText (heldOf needed f r) ≡ isText r
+unfolding heldOf valueOf holdsText isText
+texts-alike needed f reading.Malformed = refl
+texts-alike needed f reading.OutOfRange = refl
+texts-alike needed f (reading.Held Absent) = go needed
+  where
+    go : (b : Bool) → holdsText (cond b (judged.Not 11) (judged.Is Absent)) ≡ false
+    go true = refl
+    go false = refl
+texts-alike needed f (reading.Held (Whole z)) = go (inRange (f .range) z)
+  where
+    go : (b : Bool) → holdsText (cond b (judged.Is (Whole z)) (judged.Not 10)) ≡ false
+    go true = refl
+    go false = refl
+texts-alike needed f (reading.Held (Decimal d)) = refl
+texts-alike needed f (reading.Held (Angle z)) = refl
+texts-alike needed f (reading.Held (Date d)) = refl
+texts-alike needed f (reading.Held (Text c)) = refl
+
+-- a text that was put into a field is the text handed back
+pub text-read-back : (s : List ℕ) (n form k : ℕ) (f : Field) → soughtOf s n form ≡ sought.Is k f → (x t : List ℕ)
+    → textEntryOf (spellingOf (f .kind) (eqb form 1)) (width f) x ≡ agreed t → fieldText (placedIn f s t) n form ≡ x
+unfolding fieldText textOn judgedOf textRead
+text-read-back s n form k f q x t e =
+    let sp = spellingOf (f .kind) (eqb form 1) in
+    let b = field-text-back sp (width f) x t e in
+    let p = text-printed (width f) t sp x e in
+    let card = placedIn f s t in
+    ap (textOn card (eqb form 1)) (still-there s n form k f q t (b .1) p)
+    ∙ ap (λ c. cond (holdsText (heldOf (neededOn k card f) f (readingOf sp c))) (textOf c) []) (now-holds s n form k f q t (b .1) p)
+    ∙ ap (λ y. cond y (textOf t) []) (texts-alike (neededOn k card f) f (readingOf sp t))
+    ∙ b .0

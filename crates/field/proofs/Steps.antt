@@ -318,8 +318,8 @@ unfolding soughtOf
 found-coded s n form k f e = go (eqb (length s) 0) (not (eqb (length s) 80)) (ltb (firstBad s) 80) refl e
   where
     go : (a b c : Bool) → ltb (firstBad s) 80 ≡ c
-      → cond a (Refused (refusal 1 0 0)) (cond b (Refused (refusal 2 0 0)) (cond c (Refused (refusal 4 1 (firstBad s + 1))) (coded (codeOf (take 5 s)) n form))) ≡ Is k f
-      → (80 ≤ firstBad s) × (coded (codeOf (take 5 s)) n form ≡ Is k f)
+        → cond a (Refused (refusal 1 0 0)) (cond b (Refused (refusal 2 0 0)) (cond c (Refused (refusal 4 1 (firstBad s + 1))) (coded (codeOf (take 5 s)) n form))) ≡ Is k f
+        → (80 ≤ firstBad s) × (coded (codeOf (take 5 s)) n form ≡ Is k f)
     go true b c q h = absurd (zero-one cc)
     go false true c q h = absurd (zero-one cc)
     go false false true q h = absurd (zero-one cc)

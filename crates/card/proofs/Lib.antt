@@ -1,0 +1,7 @@
+pub mod Examples
+pub mod Laying
+pub mod Leftmost
+pub mod NewCards
+pub mod Verdicts
+pub mod Walked
+pub mod Ways

@@ -1,0 +1,134 @@
+-- What each way through judging a card finds.
+use Prim.Native.Nat.{ℕ, zero, suc, _+_, _-_, _≤_, _<_}
+use native.Mathlib.Omega.{arith}
+use mathlib.Core.Path.{_≡_, refl, sym, ap, _∙_}
+use mathlib.Core.List.{List, [], _∷_}
+use mathlib.Core.Bool.{Bool, true, false, cond, _&&_, not, true≢false}
+use lib.ListN.{length, getD, take, drop, length-drop, List·getD-eq-default}
+use lib.Seq.{length-take-le, getD-take, getD-drop, ext-getD}
+use lib.Dec.{eqb, leb, ltb}
+use borrow.Author.Tests.{eq-eqb, ne-eqb, le-leb, lt-leb, lt-ltb, le-ltb}
+use Rattle.lists.specs.Count.{firstFrom}
+use Rattle.lists.specs.Parts.{alike}
+use Rattle.lists.proofs.Comparing.{equal-alike, unequal-alike}
+use Rattle.layout.specs.declared.Code.{Code}
+use Rattle.layout.specs.declared.Field.{Field}
+use Rattle.layout.specs.Layouts.{codeOf, labelOf, fieldsOf}
+use Rattle.field.specs.declared.Judged.{Judged}
+use Rattle.field.specs.Card.{firstBad}
+use Rattle.field.specs.Reading.{judgedOf}
+use Rattle.card.specs.declared.Form.{Form}
+use Rattle.card.specs.declared.Form.the-variants as form
+use Rattle.card.specs.declared.Verdict.{Verdict}
+use Rattle.card.specs.declared.Verdict.the-variants.{Fine, Offence}
+use Rattle.card.specs.Judging.{isCoordinate, numberOf, fieldOffence, filledAt, nextVerdict, labelStands, labelOffence, offenceAt, columnOffence, verdictFrom, codeVerdict, verdictOf}
+use Rattle.card.proofs.Leftmost.{decides, skips, agree}
+
+-- a column that is not blank, and one that is
+pub filled-here : (s : List ℕ) (c : ℕ) → (getD s (c - 1) 0 ≡ 32 → ⊥) → filledAt s c ≡ true
+unfolding filledAt
+filled-here s c h = rw (ne-eqb (getD s (c - 1) 0) 32 h)
+
+pub blank-here : (s : List ℕ) (c : ℕ) → getD s (c - 1) 0 ≡ 32 → filledAt s c ≡ false
+unfolding filledAt
+blank-here s c h = rw (eq-eqb (getD s (c - 1) 0) 32 h)
+
+-- a field whose form is not known
+module _ (k : ℕ) (s : List ℕ) (f : Field) where
+  pub unread-passed : isCoordinate (f .kind) ≡ true → fieldOffence k form.Unknown s f ≡ 0
+  unfolding fieldOffence
+  unread-passed h = rw h
+
+  pub unread-judged : isCoordinate (f .kind) ≡ false → (j : Judged) → j ≡ judgedOf k s f false → fieldOffence k form.Unknown s f ≡ numberOf j
+  unfolding fieldOffence
+  unread-judged h j q = rw (h, q)
+
+-- the columns up to a field, and the field
+module _ (k : ℕ) (form : Form) (s : List ℕ) (f : Field) (c q : ℕ) (is : q ≡ firstFrom (filledAt s) (f .first - c) c) where
+  pub next-gap : q < f .first → nextVerdict k form s f c ≡ Offence 7 q
+  unfolding nextVerdict
+  next-gap h = rw (← is, lt-ltb q (f .first) h)
+
+  module _ (past : f .first ≤ q) (n : ℕ) (number : n ≡ fieldOffence k form s f) where
+    pub next-fine : n ≡ 0 → nextVerdict k form s f c ≡ Fine
+    unfolding nextVerdict
+    next-fine h = rw (← is, le-ltb q (f .first) past, ← number, eq-eqb n 0 h)
+
+    pub next-field-bad : (n ≡ 0 → ⊥) → nextVerdict k form s f c ≡ Offence n (f .first)
+    unfolding nextVerdict
+    next-field-bad h = rw (← is, le-ltb q (f .first) past, ← number, ne-eqb n 0 h)
+
+-- the label, byte by byte
+module _ (k : ℕ) (s : List ℕ) where
+  label-at : (i : ℕ) → i < length (labelOf k) → getD (take (length (labelOf k)) (drop 5 s)) i 0 ≡ getD s (5 + i) 0
+  label-at i h = getD-take (length (labelOf k)) (drop 5 s) i 0 h ∙ getD-drop 5 s i 0
+
+  in-label : (i : ℕ) → i < length (labelOf k) → getD (labelOf k) i 32 ≡ getD (labelOf k) i 0
+  in-label i h = default (labelOf k) i h
+    where
+      default : (l : List ℕ) (i : ℕ) → i < length l → getD l i 32 ≡ getD l i 0
+      default [] i h = absurd (omega arith)
+      default (x ∷ l) zero h = refl
+      default (x ∷ l) (suc i) h = default l i (omega arith)
+
+  pub label-other : (i : ℕ) → i < length (labelOf k) → length s ≡ 80 → length (labelOf k) ≤ 75 → (b : ℕ) → b ≡ getD (labelOf k) i 32
+      → (getD s (5 + i) 0 ≡ b → ⊥) → labelStands k s ≡ false
+  unfolding labelStands
+  label-other i h whole room b q ne =
+      unequal-alike (take (length (labelOf k)) (drop 5 s)) (labelOf k)
+      (λ e. ne (sym (label-at i h) ∙ ap (λ (l : List ℕ). getD l i 0) e ∙ sym (in-label i h) ∙ sym q))
+
+  pub label-here : length s ≡ 80 → length (labelOf k) ≤ 75
+      → ((j : ℕ) → j < length (labelOf k) → getD s (5 + j) 0 ≡ getD (labelOf k) j 32) → labelStands k s ≡ true
+  unfolding labelStands
+  label-here whole room same =
+      equal-alike (take (length (labelOf k)) (drop 5 s)) (labelOf k)
+      (ext-getD 0 (take (length (labelOf k)) (drop 5 s)) (labelOf k) wide
+      (λ j h. label-at j (omega (arith, wide)) ∙ same j (omega (arith, wide)) ∙ in-label j (omega (arith, wide))))
+    where
+      wide : length (take (length (labelOf k)) (drop 5 s)) ≡ length (labelOf k)
+      wide = length-take-le (length (labelOf k)) (drop 5 s) (rw (length-drop 5 s) (omega arith))
+
+-- a card of a read code: its label, and then the columns behind it
+module _ (k : ℕ) (form : Form) (s : List ℕ) where
+  pub label-wrong : labelStands k s ≡ false → verdictFrom (offenceAt k form s) 6 ≡ Offence 8 6
+  unfolding offenceAt labelOffence labelStands alike
+  label-wrong h =
+      decides (offenceAt k form s) 6 (omega arith) (λ z. absurd (omega (arith, eight))) ∙ ap (λ n. Offence n 6) eight
+    where
+      long : (l u : List ℕ) → alike (take (length l) u) l ≡ false → 0 < length l
+      long [] u q = absurd (true≢false q)
+      long (x ∷ l) u q = omega arith
+
+      eight : offenceAt k form s 6 ≡ 8
+      eight = rw (lt-ltb 6 (6 + length (labelOf k)) (omega (arith, long (labelOf k) (drop 5 s) h)), h)
+
+  pub label-right : labelStands k s ≡ true → length (labelOf k) ≤ 75 → (c : ℕ) → c ≡ 6 + length (labelOf k)
+      → verdictFrom (offenceAt k form s) 6 ≡ verdictFrom (columnOffence k form s (fieldsOf k)) c
+  unfolding offenceAt labelOffence
+  label-right h room c q =
+      skips (offenceAt k form s) (length (labelOf k)) 6 (omega arith) none
+      ∙ ap (verdictFrom (offenceAt k form s)) (sym q)
+      ∙ agree (offenceAt k form s) (columnOffence k form s (fieldsOf k)) c (omega arith) (λ j a. rw (le-ltb j (6 + length (labelOf k)) (omega arith)))
+    where
+      never : (b : Bool) → _≡_ {A = ℕ} (cond (b && false) 8 0) 0
+      never true = refl
+      never false = refl
+
+      none : (j : ℕ) → 6 ≤ j → j < 6 + length (labelOf k) → offenceAt k form s j ≡ 0
+      none j a b = rw (lt-ltb j (6 + length (labelOf k)) b, h) (never (eqb j 6))
+
+-- the card before its columns
+module _ (s : List ℕ) (form : Form) where
+  pub verdict-odd : (length s ≡ 80 → ⊥) → verdictOf s form ≡ Offence 2 0
+  unfolding verdictOf
+  verdict-odd h = rw (ne-eqb (length s) 80 h)
+
+  module _ (whole : length s ≡ 80) (bad : ℕ) (is : bad ≡ firstBad s) where
+    pub verdict-bad : bad < 80 → verdictOf s form ≡ Offence 4 (bad + 1)
+    unfolding verdictOf
+    verdict-bad h = rw (whole, ← is, lt-ltb bad 80 h)
+
+    pub verdict-coded : 80 ≤ bad → (k : Code) → codeOf (take 5 s) ≡ k → verdictOf s form ≡ codeVerdict k form s
+    unfolding verdictOf
+    verdict-coded h k q = rw (whole, ← is, le-ltb bad 80 h, q)

@@ -1,0 +1,272 @@
+// One card: opened with its code and label, and judged by itself.
+use field::Judged;
+use field::Refusal;
+use layout::Code;
+use layout::Field;
+use layout::Found;
+use layout::Kind;
+ghost use mathlib.Core.Path.{_≡_};
+ghost use mathlib.Core.List.{_++_, []};
+ghost use Prim.Native.Nat.{_≤_, _<_, _-_, _+_};
+ghost use lib.ListN.{length, take, drop};
+ghost use Rattle.lists.specs.Count.{firstFrom};
+ghost use Rattle.layout.specs.Layouts.{labelOf, fieldsOf};
+ghost use Rattle.field.specs.Card.{refusal};
+ghost use Rattle.card.specs.Opening.{labelled, newCard, openedOf, openedCard};
+ghost use Rattle.card.specs.Judging.{isCoordinate, numberOf, fieldOffence, filledAt, columnOffence, nextVerdict, labelStands, offenceAt, verdictFrom, verdictOf};
+
+const CARD: usize = 80;
+
+const CODE: usize = 5;
+
+const BLANK: u8 = 32;
+
+// The answer to opening a card.
+pub enum Opened {
+    Done,
+    Refused(Refusal),
+}
+
+// How a card's coordinates are spelled: form 0, form 1, or it cannot be known.
+pub enum Form {
+    Angles,
+    Grid,
+    Unknown,
+}
+
+// What a card is by itself: fine, or the number of its first offence and its column.
+pub enum Verdict {
+    Fine,
+    Offence(usize, usize),
+}
+
+// A refusal to open a card.
+fn refused(number: usize, card: usize, column: usize) -> Opened
+    ensures { λ r. ⌜ r ≡ Opened.Refused (refusal number card column) ⌝ }
+{
+    Opened::Refused(Refusal {
+        number,
+        card,
+        column,
+    })
+}
+
+// Writes a code to the front of a card.
+fn lay_code(card: &mut [u8], code: &[u8])
+    requires { ⌜ length (now code) ≤ length (now card) ⌝ }
+    ensures { λ _. ⌜ now (card .exit) ≡ now (code .entry) ++ drop (length (now (code .entry))) (now (card .entry)) ⌝ }
+{
+    let mut i = 0;
+    while i < code.len() {
+        card[i] = code[i];
+        i += 1;
+    }
+}
+
+// Writes a layout's label, and blanks behind it.
+fn lay_label(columns: &mut [u8], layout: usize)
+    requires { ⌜ length (labelOf layout) ≤ length (now columns) ⌝ }
+    ensures { λ _. ⌜ now (columns .exit) ≡ labelled (labelOf layout) (length (now (columns .entry))) ⌝ }
+{
+    let mut i = 0;
+    while i < columns.len() {
+        columns[i] = layout::label_byte(layout, i);
+        i += 1;
+    }
+}
+
+// Writes a new card of a read code.
+fn lay_read(card: &mut [u8], code: &[u8], layout: usize)
+    requires { ⌜ (length (now card) ≡ 80) × (length (now code) ≡ 5) ⌝ }
+    ensures { λ _. ⌜ now (card .exit) ≡ newCard (now (code .entry)) (labelOf layout) ⌝ }
+{
+    lay_code(card, code);
+    lay_label(&mut card[CODE..], layout);
+}
+
+// Writes a new card of a passed code.
+fn lay_passed(card: &mut [u8], code: &[u8])
+    requires { ⌜ (length (now card) ≡ 80) × (length (now code) ≡ 5) ⌝ }
+    ensures { λ _. ⌜ now (card .exit) ≡ newCard (now (code .entry)) [] ⌝ }
+{
+    lay_code(card, code);
+    digits::fill_blanks(&mut card[CODE..]);
+}
+
+// Opens a card: its code, the label of a read code, and blanks, whatever stood there.
+pub fn open(card: &mut [u8], code: &[u8]) -> Opened
+    ensures answer { λ r. ⌜ r ≡ openedOf (now (code .entry)) (length (now (card .entry))) ⌝ }
+    ensures card { λ _. ⌜ now (card .exit) ≡ openedCard (now (code .entry)) (now (card .entry)) ⌝ }
+{
+    if card.len() == 0 {
+        return refused(1, 0, 0);
+    }
+    if card.len() != CARD {
+        return refused(2, 0, 0);
+    }
+    let known = layout::code_of(code);
+    match known {
+        Code::Unknown => refused(5, 1, 1),
+        Code::Passed => {
+            lay_passed(card, code);
+            Opened::Done
+        }
+        Code::Read(k) => {
+            lay_read(card, code, k);
+            Opened::Done
+        }
+    }
+}
+
+fn is_coordinate(kind: Kind) -> bool
+    ensures { λ r. ⌜ r ≡ isCoordinate kind ⌝ }
+{
+    match kind {
+        Kind::Text => false,
+        Kind::Comment => false,
+        Kind::Whole => false,
+        Kind::Decimal => false,
+        Kind::Date => false,
+        Kind::Latitude => true,
+        Kind::Longitude => true,
+    }
+}
+
+// The number of a field's offence, 0 for none.
+fn number_of(j: Judged) -> usize
+    ensures { λ r. ⌜ r ≡ numberOf j ⌝ }
+{
+    match j {
+        Judged::Is(_) => 0,
+        Judged::Not(number) => number,
+    }
+}
+
+// The offence of a field whose form is not known: none of a coordinate.
+fn offence_unread(card: &[u8], layout: usize, f: Field) -> usize
+    requires { ⌜ (length (now card) ≡ 80) × (1 ≤ f .first) × (f .first ≤ f .last) × (f .last ≤ 80) ⌝ }
+    ensures { λ r. ⌜ r ≡ fieldOffence layout Form.Unknown (now (card .entry)) f ⌝ }
+{
+    let kind = f.kind;
+    if is_coordinate(kind) {
+        return 0;
+    }
+    number_of(field::judge(card, layout, f, false))
+}
+
+// The number of a field's offence on a card, 0 for none.
+fn field_offence(card: &[u8], layout: usize, f: Field, form: Form) -> usize
+    requires { ⌜ (length (now card) ≡ 80) × (1 ≤ f .first) × (f .first ≤ f .last) × (f .last ≤ 80) ⌝ }
+    ensures { λ r. ⌜ r ≡ fieldOffence layout form (now (card .entry)) f ⌝ }
+{
+    match form {
+        Form::Angles => number_of(field::judge(card, layout, f, false)),
+        Form::Grid => number_of(field::judge(card, layout, f, true)),
+        Form::Unknown => offence_unread(card, layout, f),
+    }
+}
+
+// The first column that is not blank, from one up to but not with another; that other where there is none.
+fn first_filled(card: &[u8], from: usize, to: usize) -> usize
+    requires { ⌜ (length (now card) ≡ 80) × (1 ≤ from) × (to ≤ 81) ⌝ }
+    ensures { λ r. ⌜ r ≡ firstFrom (filledAt (now (card .entry))) (to - from) from ⌝ }
+{
+    let mut column = from;
+    while column < to {
+        if card[column - 1] != BLANK {
+            return column;
+        }
+        column += 1;
+    }
+    column
+}
+
+// Whether a layout's label stands in its columns.
+fn label_stands(card: &[u8], layout: usize) -> bool
+    requires { ⌜ (length (now card) ≡ 80) × (length (labelOf layout) ≤ 75) ⌝ }
+    ensures { λ r. ⌜ r ≡ labelStands layout (now (card .entry)) ⌝ }
+{
+    let width = layout::label_length(layout);
+    let mut i = 0;
+    while i < width {
+        if card[CODE + i] != layout::label_byte(layout, i) {
+            return false;
+        }
+        i += 1;
+    }
+    true
+}
+
+// The columns from one up to a field, and then the field.
+fn judge_next(card: &[u8], layout: usize, f: Field, form: Form, from: usize) -> Verdict
+    requires { ⌜ (length (now card) ≡ 80) × (1 ≤ from) × (1 ≤ f .first) × (f .first ≤ f .last) × (f .last ≤ 80) ⌝ }
+    ensures { λ r. ⌜ r ≡ nextVerdict layout form (now (card .entry)) f from ⌝ }
+{
+    let first = f.first;
+    let filled = first_filled(card, from, first);
+    if filled < first {
+        return Verdict::Offence(7, filled);
+    }
+    let number = field_offence(card, layout, f, form);
+    if number == 0 {
+        return Verdict::Fine;
+    }
+    Verdict::Offence(number, first)
+}
+
+// The columns behind the label: field by field, each with the columns before it, and the columns behind the last.
+fn judge_columns(card: &[u8], layout: usize, form: Form, from: usize) -> Verdict
+    requires { ⌜ (length (now card) ≡ 80) × (from ≡ 6 + length (labelOf layout)) ⌝ }
+    ensures { λ r. ⌜ r ≡ verdictFrom (columnOffence layout form (now (card .entry)) (fieldsOf layout)) from ⌝ }
+{
+    let count = layout::fields_in(layout);
+    let mut column = from;
+    let mut number = 0;
+    while number < count {
+        number += 1;
+        let found = layout::field_of(layout, number);
+        let Found::Is(f) = found else {
+            return Verdict::Fine;
+        };
+        let next = judge_next(card, layout, f, form, column);
+        let Verdict::Fine = next else {
+            return next;
+        };
+        column = f.last + 1;
+    }
+    let filled = first_filled(card, column, CARD + 1);
+    if CARD < filled {
+        return Verdict::Fine;
+    }
+    Verdict::Offence(7, filled)
+}
+
+// A card of a read code: its label, and then its columns.
+fn judge_read(card: &[u8], layout: usize, form: Form) -> Verdict
+    requires { ⌜ length (now card) ≡ 80 ⌝ }
+    ensures { λ r. ⌜ r ≡ verdictFrom (offenceAt layout form (now (card .entry))) 6 ⌝ }
+{
+    if !label_stands(card, layout) {
+        return Verdict::Offence(8, 6);
+    }
+    judge_columns(card, layout, form, 6 + layout::label_length(layout))
+}
+
+// A card by itself: its first offence and its column. Its place among other cards is not looked at.
+pub fn judge_card(card: &[u8], form: Form) -> Verdict
+    ensures { λ r. ⌜ r ≡ verdictOf (now (card .entry)) form ⌝ }
+{
+    if card.len() != CARD {
+        return Verdict::Offence(2, 0);
+    }
+    let bad = field::first_bad(card);
+    if bad < CARD {
+        return Verdict::Offence(4, bad + 1);
+    }
+    let code = layout::code_of(&card[..CODE]);
+    match code {
+        Code::Unknown => Verdict::Offence(5, 1),
+        Code::Passed => Verdict::Fine,
+        Code::Read(k) => judge_read(card, k, form),
+    }
+}
