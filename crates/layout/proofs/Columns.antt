@@ -33,14 +33,14 @@ counts = refl
 -- order
 
 -- each field lies on the card from column c on, and the next after it
-abbrev inOrder : ℕ → List Field → Bool
+abbrev pub inOrder : ℕ → List Field → Bool
 inOrder c [] = true
 inOrder c (f ∷ fs) = leb c (f .first) && (leb (f .first) (f .last) && (leb (f .last) 80 && inOrder (suc (f .last)) fs))
 
-abbrev ordered : Layout → Bool
+abbrev pub ordered : Layout → Bool
 ordered l = inOrder (6 + length (l .label)) (l .fields)
 
-all-ordered : T (every (λ (i : ℕ). ordered) 0 layouts)
+pub all-ordered : T (every (λ (i : ℕ). ordered) 0 layouts)
 unfolding layouts
 all-ordered = tt
 
@@ -57,10 +57,10 @@ module _ (c : ℕ) (f : Field) (fs : List Field) (t : T (inOrder c (f ∷ fs))) 
   more : T (leb (f .last) 80 && inOrder (suc (f .last)) fs)
   more = and-right (leb (f .first) (f .last)) (leb (f .last) 80 && inOrder (suc (f .last)) fs) past
 
-  rest : T (inOrder (suc (f .last)) fs)
+  pub rest : T (inOrder (suc (f .last)) fs)
   rest = and-right (leb (f .last) 80) (inOrder (suc (f .last)) fs) more
 
-  front : Lies c f
+  pub front : Lies c f
   front =
       record {
         after = leb→le _ _ (and-left (leb c (f .first)) (leb (f .first) (f .last) && (leb (f .last) 80 && inOrder (suc (f .last)) fs)) t);
