@@ -131,9 +131,9 @@ pub fn code_of(code: &[u8]) -> Code
     Code::Unknown
 }
 
-// The table that the functions below whose names end in `_by` are lent. Whoever asks for many fields holds it once:
-// a constant array is written out anew wherever it is used.
-pub fn table() -> [u64; SIZE]
+// The table that the functions below whose names end in `_by` are lent: a constant array is written out anew wherever
+// it is used, so one question holds it once.
+fn table() -> [u64; SIZE]
     ensures { λ r. ⌜ r ≡ fieldTable ⌝ }
 {
     TABLE
@@ -154,7 +154,7 @@ fn label_start_by(table: &[u64], layout: usize) -> usize
 }
 
 // The number of fields of a layout, 0 past the last layout.
-pub fn fields_by(table: &[u64], layout: usize) -> usize
+fn fields_by(table: &[u64], layout: usize) -> usize
     requires { ⌜ now table ≡ fieldTable ⌝ }
     ensures { λ r. ⌜ r ≡ length (fieldsOf layout) ⌝ }
 {
@@ -213,7 +213,7 @@ fn unpacked(number: u64) -> Field
 }
 
 // The field with a number, counted from 1, of a layout.
-pub fn field_by(table: &[u64], layout: usize, number: usize) -> Found
+fn field_by(table: &[u64], layout: usize, number: usize) -> Found
     requires { ⌜ now table ≡ fieldTable ⌝ }
     ensures { λ r. ⌜ r ≡ fieldOf layout number ⌝ }
 {
@@ -235,7 +235,7 @@ pub fn field_of(layout: usize, number: usize) -> Found
 }
 
 // How many columns, from 6 on, a layout's label fills; 0 where it has none.
-pub fn label_by(table: &[u64], layout: usize) -> usize
+fn label_by(table: &[u64], layout: usize) -> usize
     requires { ⌜ now table ≡ fieldTable ⌝ }
     ensures { λ r. ⌜ r ≡ length (labelOf layout) ⌝ }
 {

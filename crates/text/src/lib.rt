@@ -45,7 +45,7 @@ pub fn begins_blank(s: &[u8]) -> bool
 }
 
 // Whether every byte is printable.
-pub fn all_printable(s: &[u8]) -> bool
+fn all_printable(s: &[u8]) -> bool
     ensures { λ r. ⌜ r ≡ printable (now (s .entry)) ⌝ }
 {
     let mut i = 0;
@@ -63,7 +63,7 @@ pub fn all_printable(s: &[u8]) -> bool
 }
 
 // Whether a text may be put; lead says whether it may begin with a blank.
-pub fn well_formed(text: &[u8], lead: bool) -> bool
+fn well_formed(text: &[u8], lead: bool) -> bool
     ensures { λ r. ⌜ r ≡ wellFormed lead (now (text .entry)) ⌝ }
 {
     if text.len() == 0 {
