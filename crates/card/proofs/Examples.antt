@@ -18,8 +18,8 @@ use Rattle.spelling.specs.Reading.{textReading, wholeReading, decimalReading, d
 use Rattle.layout.specs.Shape.{bytes}
 use Rattle.layout.specs.Table.{layouts, passedCodes}
 use Rattle.layout.specs.Layouts.{byteFits, fitsAt, fits, codes, placeIn, codeAt, codeOf, layoutAt, fieldsOf, labelOf, inRange}
-use Rattle.field.specs.Card.{firstBad}
-use Rattle.field.specs.Reading.{columnsOf, isBlank, spellingOf, anySecond, neededOn, valueOf, heldOf, judgedOf}
+use Rattle.seeking.specs.Card.{firstBad}
+use Rattle.judging.specs.Fields.{columnsOf, isBlank, spellingOf, anySecond, neededOn, valueOf, heldOf, judgedOf}
 use Rattle.card.specs.declared.Form.{Form}
 use Rattle.card.specs.declared.Form.the-variants.{Angles, Grid, Unknown}
 use Rattle.card.specs.declared.Verdict.{Verdict}

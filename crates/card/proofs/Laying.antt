@@ -23,7 +23,7 @@ use Rattle.layout.proofs.Every.{every}
 use Rattle.layout.proofs.Places.{no-label}
 use Rattle.layout.proofs.Columns.{of-layout}
 use Rattle.layout.proofs.Walk.{wrong-length}
-use Rattle.field.specs.Card.{refusal}
+use Rattle.seeking.specs.Card.{refusal}
 use Rattle.spelling.proofs.Absence.{zero-one}
 use Rattle.card.specs.declared.Opened.{Opened}
 use Rattle.card.specs.declared.Opened.the-variants.{Done, Refused}

@@ -14,9 +14,9 @@ use Rattle.lists.proofs.Comparing.{equal-alike, unequal-alike}
 use Rattle.layout.specs.declared.Code.{Code}
 use Rattle.layout.specs.declared.Field.{Field}
 use Rattle.layout.specs.Layouts.{codeOf, labelOf, fieldsOf}
-use Rattle.field.specs.declared.Judged.{Judged}
-use Rattle.field.specs.Card.{firstBad}
-use Rattle.field.specs.Reading.{judgedOf}
+use Rattle.judging.specs.declared.Judged.{Judged}
+use Rattle.seeking.specs.Card.{firstBad}
+use Rattle.judging.specs.Fields.{judgedOf}
 use Rattle.card.specs.declared.Form.{Form}
 use Rattle.card.specs.declared.Form.the-variants as form
 use Rattle.card.specs.declared.Verdict.{Verdict}

@@ -12,10 +12,10 @@ use Rattle.layout.specs.declared.Kind.{Kind}
 use Rattle.layout.specs.declared.Kind.the-variants as kind
 use Rattle.layout.specs.declared.Field.{Field}
 use Rattle.layout.specs.Layouts.{codeOf, fieldsOf, labelOf}
-use Rattle.field.specs.declared.Judged.{Judged}
-use Rattle.field.specs.declared.Judged.the-variants as judged
-use Rattle.field.specs.Card.{firstBad}
-use Rattle.field.specs.Reading.{judgedOf}
+use Rattle.judging.specs.declared.Judged.{Judged}
+use Rattle.judging.specs.declared.Judged.the-variants as judged
+use Rattle.seeking.specs.Card.{firstBad}
+use Rattle.judging.specs.Fields.{judgedOf}
 use Rattle.card.specs.declared.Form.{Form}
 use Rattle.card.specs.declared.Form.the-variants as form
 use Rattle.card.specs.declared.Verdict.{Verdict}

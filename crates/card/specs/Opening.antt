@@ -7,7 +7,7 @@ use lib.Dec.{eqb}
 use Rattle.layout.specs.declared.Code.{Code}
 use Rattle.layout.specs.declared.Code.the-variants as code
 use Rattle.layout.specs.Layouts.{codeOf, labelOf}
-use Rattle.field.specs.Card.{refusal}
+use Rattle.seeking.specs.Card.{refusal}
 use Rattle.card.specs.declared.Opened.{Opened}
 use Rattle.card.specs.declared.Opened.the-variants.{Done, Refused}
 

@@ -1,17 +1,17 @@
 // One card: opened with its code and label, and judged by itself.
-use field::Judged;
-use field::Refusal;
+use judging::Judged;
 use layout::Code;
 use layout::Field;
 use layout::Found;
 use layout::Kind;
+use seeking::Refusal;
 ghost use mathlib.Core.Path.{_≡_};
 ghost use mathlib.Core.List.{_++_, []};
 ghost use Prim.Native.Nat.{_≤_, _<_, _-_, _+_};
 ghost use lib.ListN.{length, take, drop};
 ghost use Rattle.lists.specs.Count.{firstFrom};
 ghost use Rattle.layout.specs.Layouts.{labelOf, fieldsOf};
-ghost use Rattle.field.specs.Card.{refusal};
+ghost use Rattle.seeking.specs.Card.{refusal};
 ghost use Rattle.card.specs.Opening.{labelled, newCard, openedOf, openedCard};
 ghost use Rattle.card.specs.Judging.{isCoordinate, numberOf, fieldOffence, filledAt, columnOffence, nextVerdict, labelStands, offenceAt, verdictFrom, verdictOf};
 
@@ -151,7 +151,7 @@ fn offence_unread(card: &[u8], layout: usize, f: Field) -> usize
     if is_coordinate(kind) {
         return 0;
     }
-    number_of(field::judge(card, layout, f, false))
+    number_of(judging::judge(card, layout, f, false))
 }
 
 // The number of a field's offence on a card, 0 for none.
@@ -160,8 +160,8 @@ fn field_offence(card: &[u8], layout: usize, f: Field, form: Form) -> usize
     ensures { λ r. ⌜ r ≡ fieldOffence layout form (now (card .entry)) f ⌝ }
 {
     match form {
-        Form::Angles => number_of(field::judge(card, layout, f, false)),
-        Form::Grid => number_of(field::judge(card, layout, f, true)),
+        Form::Angles => number_of(judging::judge(card, layout, f, false)),
+        Form::Grid => number_of(judging::judge(card, layout, f, true)),
         Form::Unknown => offence_unread(card, layout, f),
     }
 }
@@ -259,7 +259,7 @@ pub fn judge_card(card: &[u8], form: Form) -> Verdict
     if card.len() != CARD {
         return Verdict::Offence(2, 0);
     }
-    let bad = field::first_bad(card);
+    let bad = seeking::first_bad(card);
     if bad < CARD {
         return Verdict::Offence(4, bad + 1);
     }

@@ -22,12 +22,14 @@ use Rattle.spelling.proofs.Printed.{both, value-printed, text-printed}
 use Rattle.layout.specs.declared.Field.{Field}
 use Rattle.layout.specs.Layouts.{codeOf, inRange}
 use Rattle.layout.proofs.Numbers.{found-lies}
-use Rattle.field.specs.declared.Judged.the-variants as judged
+use Rattle.judging.specs.declared.Judged.the-variants as judged
 use Rattle.field.specs.declared.FieldRead.the-variants as read
-use Rattle.field.specs.declared.Sought.the-variants as sought
-use Rattle.field.specs.Card.{coded, soughtOf, firstBad}
-use Rattle.field.specs.Reading.{columnsOf, spellingOf, neededOn, valueOf, heldOf, judgedOf, answeredOf, fieldReading, holdsText, textOn, fieldText}
-use Rattle.field.proofs.Steps.{found-there, found-coded, sought-coded, reading-is}
+use Rattle.seeking.specs.declared.Sought.the-variants as sought
+use Rattle.seeking.specs.Card.{coded, soughtOf, firstBad}
+use Rattle.judging.specs.Fields.{columnsOf, spellingOf, neededOn, valueOf, heldOf, judgedOf}
+use Rattle.field.specs.Reading.{answeredOf, fieldReading, holdsText, textOn, fieldText}
+use Rattle.seeking.proofs.Steps.{found-there, found-coded, sought-coded}
+use Rattle.field.proofs.Steps.{reading-is}
 use Rattle.entry.specs.Putting.{width, placedIn, isAbsent, within}
 use Rattle.entry.proofs.Bytes.{none-bad, bad-none, rest-printable}
 use Rattle.entry.proofs.Steps.{columns-wide}

@@ -34,12 +34,12 @@ use Rattle.layout.specs.declared.Field.{Field}
 use Rattle.layout.specs.declared.Found.the-variants as found
 use Rattle.layout.specs.Layouts.{fieldsOf, fieldOf, noField, inRange, isAny, allows}
 use Rattle.layout.proofs.Numbers.{found-lies, found-ranged}
-use Rattle.field.proofs.Steps.{found-there}
-use Rattle.field.specs.declared.Refusal.{Refusal}
-use Rattle.field.specs.declared.Sought.{Sought}
-use Rattle.field.specs.declared.Sought.the-variants as sought
-use Rattle.field.specs.Card.{refusal, soughtOf}
-use Rattle.field.specs.Reading.{spellingOf, secondAt, secondBy, columnsOf}
+use Rattle.seeking.proofs.Steps.{found-there}
+use Rattle.seeking.specs.declared.Refusal.{Refusal}
+use Rattle.seeking.specs.declared.Sought.{Sought}
+use Rattle.seeking.specs.declared.Sought.the-variants as sought
+use Rattle.seeking.specs.Card.{refusal, soughtOf}
+use Rattle.judging.specs.Fields.{spellingOf, secondAt, secondBy, columnsOf}
 use Rattle.entry.specs.declared.Entered.{Entered}
 use Rattle.entry.specs.declared.Entered.the-variants.{Done, Refused}
 use Rattle.entry.specs.Putting.{Putting, placed, stays, answerOf, leftBy, cameOf, width, placedIn, isAbsent, within, otherSecond, neededAfter, isOther, byEntry, valuePut, valueAt, textAt, puttingOf, puttingTextOf}

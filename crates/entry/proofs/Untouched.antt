@@ -14,11 +14,11 @@ use Rattle.spelling.specs.Writing.{entryOf, textEntryOf}
 use Rattle.spelling.proofs.Absence.{zero-one}
 use Rattle.spelling.proofs.Back.{value-back, text-read-back}
 use Rattle.layout.specs.declared.Field.{Field}
-use Rattle.field.specs.declared.Refusal.{Refusal}
-use Rattle.field.specs.declared.Sought.{Sought}
-use Rattle.field.specs.declared.Sought.the-variants as sought
-use Rattle.field.specs.Card.{refusal, soughtOf}
-use Rattle.field.specs.Reading.{spellingOf}
+use Rattle.seeking.specs.declared.Refusal.{Refusal}
+use Rattle.seeking.specs.declared.Sought.{Sought}
+use Rattle.seeking.specs.declared.Sought.the-variants as sought
+use Rattle.seeking.specs.Card.{refusal, soughtOf}
+use Rattle.judging.specs.Fields.{spellingOf}
 use Rattle.entry.specs.Putting.{Putting, placed, stays, leftBy, width, placedIn, isAbsent, within, neededAfter, isOther, cameOf, byEntry, valuePut, puttingOf, puttingTextOf}
 use Rattle.entry.proofs.Steps.{value-is, text-is, field-fits, columns-wide}
 

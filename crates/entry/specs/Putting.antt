@@ -12,11 +12,11 @@ use Rattle.spelling.specs.declared.Value.the-variants.{Absent, Whole, Decimal, 
 use Rattle.spelling.specs.Writing.{entryOf, textEntryOf}
 use Rattle.layout.specs.declared.Field.{Field}
 use Rattle.layout.specs.Layouts.{fieldsOf, inRange}
-use Rattle.field.specs.declared.Refusal.{Refusal}
-use Rattle.field.specs.declared.Sought.{Sought}
-use Rattle.field.specs.declared.Sought.the-variants as sought
-use Rattle.field.specs.Card.{refusal, soughtOf}
-use Rattle.field.specs.Reading.{spellingOf, secondAt}
+use Rattle.seeking.specs.declared.Refusal.{Refusal}
+use Rattle.seeking.specs.declared.Sought.{Sought}
+use Rattle.seeking.specs.declared.Sought.the-variants as sought
+use Rattle.seeking.specs.Card.{refusal, soughtOf}
+use Rattle.judging.specs.Fields.{spellingOf, secondAt}
 use Rattle.entry.specs.declared.Entered.{Entered}
 use Rattle.entry.specs.declared.Entered.the-variants.{Done, Refused}
 

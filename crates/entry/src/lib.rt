@@ -1,9 +1,9 @@
 // Entering a value or a text into a field of a card: into its columns alone, or not at all.
 use digits::Written;
-use field::Refusal;
-use field::Sought;
 use layout::Field;
 use layout::Found;
+use seeking::Refusal;
+use seeking::Sought;
 use spelling::Value;
 ghost use mathlib.Core.Path.{_≡_};
 ghost use Prim.Native.Nat.{_≤_, _-_, _+_};
@@ -12,8 +12,8 @@ ghost use mathlib.Core.List.{[]};
 ghost use lib.Dec.{T};
 ghost use Rattle.layout.proofs.Columns.{ranged};
 ghost use Rattle.layout.specs.Layouts.{fieldsOf, fieldOf};
-ghost use Rattle.field.specs.Card.{refusal};
-ghost use Rattle.field.specs.Reading.{spellingOf, secondBy};
+ghost use Rattle.seeking.specs.Card.{refusal};
+ghost use Rattle.judging.specs.Fields.{spellingOf, secondBy};
 ghost use Rattle.spelling.specs.Writing.{entryOf, textEntryOf};
 ghost use Rattle.entry.specs.Putting.{cameOf, answerOf, leftBy, isAbsent, within, otherSecond, neededAfter, byEntry, width, valuePut, puttingOf, puttingTextOf};
 
@@ -74,7 +74,7 @@ fn other_second(card: &[u8], layout: usize, number: usize) -> bool
     let mut n = 0;
     while n < count {
         n += 1;
-        if (n != number) & field::second_by(card, layout, n) {
+        if (n != number) & judging::second_by(card, layout, n) {
             return true;
         }
     }
@@ -104,7 +104,7 @@ fn write_value(card: &mut [u8], f: Field, grid: bool, v: Value) -> Entered
     let at = f.first - 1;
     let last = f.last;
     let kind = f.kind;
-    let spelling = field::spelling_of(kind, grid);
+    let spelling = judging::spelling_of(kind, grid);
     answer_for(spelling::write(&mut card[at..last], spelling, v))
 }
 
@@ -117,7 +117,7 @@ fn write_text(card: &mut [u8], f: Field, grid: bool, text: &[u8]) -> Entered
     let at = f.first - 1;
     let last = f.last;
     let kind = f.kind;
-    let spelling = field::spelling_of(kind, grid);
+    let spelling = judging::spelling_of(kind, grid);
     answer_for(spelling::write_text(&mut card[at..last], spelling, text))
 }
 
@@ -142,7 +142,7 @@ pub fn put(card: &mut [u8], number: usize, form: usize, v: Value) -> Entered
     ensures answer { λ r. ⌜ r ≡ answerOf (puttingOf (now (card .entry)) number form v) ⌝ }
     ensures card { λ _. ⌜ now (card .exit) ≡ leftBy (puttingOf (now (card .entry)) number form v) (now (card .entry)) ⌝ }
 {
-    let sought = field::seek(card, number, form);
+    let sought = seeking::seek(card, number, form);
     match sought {
         Sought::Refused(r) => Entered::Refused(r),
         Sought::Is(k, f) => enter(card, k, number, f, form == 1, v),
@@ -154,7 +154,7 @@ pub fn put_text(card: &mut [u8], number: usize, form: usize, text: &[u8]) -> Ent
     ensures answer { λ r. ⌜ r ≡ answerOf (puttingTextOf (now (card .entry)) number form (now (text .entry))) ⌝ }
     ensures card { λ _. ⌜ now (card .exit) ≡ leftBy (puttingTextOf (now (card .entry)) number form (now (text .entry))) (now (card .entry)) ⌝ }
 {
-    let sought = field::seek(card, number, form);
+    let sought = seeking::seek(card, number, form);
     match sought {
         Sought::Refused(r) => Entered::Refused(r),
         Sought::Is(_, f) => write_text(card, f, form == 1, text),

@@ -1,6 +1,6 @@
 use Rattle.entry.proofs.Steps.{other-is, other-over}
 use Rattle.entry.specs.Putting.{otherSecond}
-use Rattle.field.specs.Reading.{secondBy}
+use Rattle.judging.specs.Fields.{secondBy}
 use Rattle.layout.specs.Layouts.{fieldsOf, fieldOf}
 use lib.Dec.{eqb}
 use lib.ListN.{length, drop}
@@ -14,7 +14,7 @@ use Rattle.entry.proofs.other_second.Statement.{statement}
 use Rattle.entry.proofs.other_second.Tie as tie
 use Rattle.entry.proofs.other_second.Reads as reads
 use Rattle.entry.proofs.other_second.Lts as lts
-use Rattle.field.proofs.second_by.Reads as second-by-reads
+use Rattle.judging.proofs.second_by.Reads as second-by-reads
 use Rattle.layout.proofs.fields_in.Reads as fields-in-reads
 
 abbrev Inv-loop : tie.InvT-loop

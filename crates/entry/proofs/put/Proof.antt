@@ -8,7 +8,7 @@ use Rattle.entry.proofs.put.Tie as tie
 use Rattle.entry.proofs.put.Reads as reads
 use Rattle.entry.proofs.put.Lts as lts
 use Rattle.entry.proofs.enter.Reads as enter-reads
-use Rattle.field.proofs.seek.Reads as seek-reads
+use Rattle.seeking.proofs.seek.Reads as seek-reads
 
 -- src/lib.rt:145:9
 seek-requires : tie.Need-seek-requires

@@ -8,7 +8,7 @@ use Rattle.entry.proofs.put_text.Tie as tie
 use Rattle.entry.proofs.put_text.Reads as reads
 use Rattle.entry.proofs.put_text.Lts as lts
 use Rattle.entry.proofs.write_text.Reads as write-text-reads
-use Rattle.field.proofs.seek.Reads as seek-reads
+use Rattle.seeking.proofs.seek.Reads as seek-reads
 
 -- src/lib.rt:157:9
 seek-requires : tie.Need-seek-requires

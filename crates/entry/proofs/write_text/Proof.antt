@@ -3,7 +3,7 @@ use mathlib.Core.Path.{ap₂}
 use Rattle.entry.proofs.Steps.{columns-wide, put-entry}
 use Rattle.entry.specs.Putting.{width}
 use Rattle.spelling.specs.Writing.{textEntryOf}
-use Rattle.field.specs.Reading.{spellingOf}
+use Rattle.judging.specs.Fields.{spellingOf}
 use Rattle.digits.specs.Columns.{answerOf as writtenOf, enteredIn}
 use lib.ListN.{length, take, drop}
 use Prim.Native.Nat.{ℕ, _-_}
@@ -16,7 +16,7 @@ use Rattle.entry.proofs.write_text.Tie as tie
 use Rattle.entry.proofs.write_text.Reads as reads
 use Rattle.entry.proofs.write_text.Lts as lts
 use Rattle.entry.proofs.answer_for.Reads as answer-for-reads
-use Rattle.field.proofs.spelling_of.Reads as spelling-of-reads
+use Rattle.judging.proofs.spelling_of.Reads as spelling-of-reads
 use Rattle.spelling.proofs.write_text.Reads as write-text-reads
 
 -- src/lib.rt:117:14

@@ -1,6 +1,6 @@
 use Rattle.field.proofs.Steps.{text-not, text-other}
 use Rattle.field.specs.Reading.{holdsText}
-use Rattle.field.specs.declared.Judged.the-variants.{Is}
+use Rattle.judging.specs.declared.Judged.the-variants.{Is}
 use denote.Ref.{now}
 use mathlib.Core.Path.{_≡_, refl, sym, ap, _∙_}
 use native.Mathlib.Omega.{arith}

@@ -1,4 +1,5 @@
-use Rattle.field.proofs.Steps.{found-there, reading-is}
+use Rattle.seeking.proofs.Steps.{found-there}
+use Rattle.field.proofs.Steps.{reading-is}
 use Rattle.layout.proofs.Numbers.{found-lies}
 use Rattle.field.specs.Reading.{fieldReading, fieldOn, answeredOf}
 use denote.Ref.{now}
@@ -10,8 +11,8 @@ use Rattle.field.proofs.read_field.Tie as tie
 use Rattle.field.proofs.read_field.Reads as reads
 use Rattle.field.proofs.read_field.Lts as lts
 use Rattle.field.proofs.answered.Reads as answered-reads
-use Rattle.field.proofs.judge.Reads as judge-reads
-use Rattle.field.proofs.seek.Reads as seek-reads
+use Rattle.judging.proofs.judge.Reads as judge-reads
+use Rattle.seeking.proofs.seek.Reads as seek-reads
 
 -- src/lib.rt:281:9
 seek-requires : tie.Need-seek-requires

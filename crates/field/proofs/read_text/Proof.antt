@@ -1,4 +1,5 @@
-use Rattle.field.proofs.Steps.{text-refused, text-none, text-is, found-there}
+use Rattle.field.proofs.Steps.{text-refused, text-none, text-is}
+use Rattle.seeking.proofs.Steps.{found-there}
 use Rattle.layout.proofs.Numbers.{found-lies}
 use borrow.Author.Tests.{not-true, not-false}
 use denote.Ref.{now}
@@ -11,8 +12,8 @@ use Rattle.field.proofs.read_text.Reads as reads
 use Rattle.field.proofs.read_text.Lts as lts
 use Rattle.field.proofs.columns.Reads as columns-reads
 use Rattle.field.proofs.holds_text.Reads as holds-text-reads
-use Rattle.field.proofs.judge.Reads as judge-reads
-use Rattle.field.proofs.seek.Reads as seek-reads
+use Rattle.judging.proofs.judge.Reads as judge-reads
+use Rattle.seeking.proofs.seek.Reads as seek-reads
 use Rattle.text.proofs.stretch.Reads as stretch-reads
 
 -- src/lib.rt:303:9

@@ -1,0 +1,24 @@
+use Rattle.judging.specs.Fields.{isBlank}
+use lib.Dec.{eqb}
+use mathlib.Core.Bool.{Bool}
+use denote.Ref.{now}
+use mathlib.Core.Path.{_≡_, refl, sym, ap, _∙_}
+use native.Mathlib.Omega.{arith}
+use borrow.Author.Needs.{needs}
+use Rattle.judging.proofs.is_blank.Statement.{statement}
+use Rattle.judging.proofs.is_blank.Tie as tie
+use Rattle.judging.proofs.is_blank.Reads as reads
+use Rattle.judging.proofs.is_blank.Lts as lts
+use Rattle.text.proofs.text_end.Reads as text-end-reads
+
+-- src/lib.rt:124:5
+text-end-requires : tie.Need-text-end-requires
+text-end-requires c κs = search needs
+
+-- src/lib.rt:121:1
+returns : tie.Need-returns
+unfolding isBlank
+returns c = ap (λ n. eqb n 0) (c .text-end .ensures .0)
+
+pub is-blank-spec : {M : Type 1} → statement M
+is-blank-spec = tie.close (tie.spec text-end-requires returns)

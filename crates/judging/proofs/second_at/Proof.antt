@@ -1,0 +1,33 @@
+use Rattle.judging.proofs.Steps.{second-first, second-columns}
+use Rattle.judging.specs.Fields.{secondAt, columnsOf, isBlank}
+use borrow.Author.Tests.{not-true, not-false}
+use mathlib.Core.Bool.{not, _&&_, false, true}
+use denote.Ref.{now}
+use mathlib.Core.Path.{_≡_, refl, sym, ap, _∙_}
+use native.Mathlib.Omega.{arith}
+use borrow.Author.Needs.{needs}
+use Rattle.judging.proofs.second_at.Statement.{statement}
+use Rattle.judging.proofs.second_at.Tie as tie
+use Rattle.judging.proofs.second_at.Reads as reads
+use Rattle.judging.proofs.second_at.Lts as lts
+use Rattle.judging.proofs.columns.Reads as columns-reads
+use Rattle.judging.proofs.is_blank.Reads as is-blank-reads
+
+-- src/lib.rt:158:9
+returns : tie.Need-returns
+returns c = sym (second-first (now (c .before .before .before .args .card)) (c .before .before .before .args .f) (not-true (c .before .before .before .args .f .second) (c .if1 .taken)))
+
+-- src/lib.rt:162:15
+columns-requires : tie.Need-columns-requires
+columns-requires c κs = search needs
+
+-- src/lib.rt:162:6
+is-blank-requires : tie.Need-is-blank-requires
+is-blank-requires c κs = search needs
+
+-- src/lib.rt:153:1
+returns-2 : tie.Need-returns-2
+returns-2 c = ap not (c .is-blank .ensures) ∙ sym (second-columns (now (c .before .before .before .before .before .args .card)) (c .before .before .before .before .before .args .f) (not-false (c .before .before .before .before .before .args .f .second) (c .before .before .if1 .left)) (now (c .before .columns .result)) (c .before .columns .ensures))
+
+pub second-at-spec : {M : Type 1} → statement M
+second-at-spec = tie.close (tie.spec returns columns-requires is-blank-requires returns-2)

@@ -1,0 +1,167 @@
+// One field of a card, judged: its columns read by its spelling, and held against its need and its range.
+use layout::Field;
+use layout::Found;
+use layout::Kind;
+use spelling::Columns;
+use spelling::Reading;
+use spelling::Spelling;
+use spelling::Value;
+ghost use mathlib.Core.Path.{_≡_};
+ghost use Prim.Native.Nat.{_≤_, _<_, _-_};
+ghost use lib.ListN.{length, take, drop};
+ghost use Rattle.layout.specs.Layouts.{fieldsOf, fieldOf};
+ghost use Rattle.judging.specs.Fields.{isBlank, spellingOf, secondAt, secondBy, anySecond, neededOn, textLast, readLast, valueOf, heldOf, judgedOf};
+
+// What a field says, or the number of its offence.
+pub enum Judged {
+    Is(Value),
+    Not(usize),
+}
+
+// The columns of a field, as a part of the card.
+fn columns(card: &[u8], first: usize, last: usize) -> &[u8]
+    requires { ⌜ (1 ≤ first) × (first ≤ last) × (last ≤ length (now card)) ⌝ }
+    ensures { λ r. ⌜ now r ≡ take (last - (first - 1)) (drop (first - 1) (now (card .entry))) ⌝ }
+{
+    &card[first - 1..last]
+}
+
+// Whether columns are all blank.
+pub fn is_blank(s: &[u8]) -> bool
+    ensures { λ r. ⌜ r ≡ isBlank (now (s .entry)) ⌝ }
+{
+    text::text_end(s) == 0
+}
+
+// The spelling of a kind in form 0 or, where grid is true, in form 1.
+pub fn spelling_of(kind: Kind, grid: bool) -> Spelling
+    ensures { λ r. ⌜ r ≡ spellingOf kind grid ⌝ }
+{
+    match kind {
+        Kind::Text => Spelling::Text,
+        Kind::Comment => Spelling::Comment,
+        Kind::Whole => Spelling::Whole,
+        Kind::Decimal => Spelling::Decimal,
+        Kind::Date => Spelling::Date,
+        Kind::Latitude => {
+            if grid {
+                return Spelling::Northing;
+            }
+            Spelling::Latitude
+        }
+        Kind::Longitude => {
+            if grid {
+                return Spelling::Easting;
+            }
+            Spelling::Longitude
+        }
+    }
+}
+
+// Whether a field belongs to the second set and is not blank.
+fn second_at(card: &[u8], f: Field) -> bool
+    requires { ⌜ (1 ≤ f .first) × (f .first ≤ f .last) × (f .last ≤ length (now card)) ⌝ }
+    ensures { λ r. ⌜ r ≡ secondAt (now (card .entry)) f ⌝ }
+{
+    if !f.second {
+        return false;
+    }
+    let first = f.first;
+    let last = f.last;
+    !is_blank(columns(card, first, last))
+}
+
+// The same of the field with a number; false where there is none.
+pub fn second_by(card: &[u8], layout: usize, number: usize) -> bool
+    requires { ⌜ length (now card) ≡ 80 ⌝ }
+    ensures { λ r. ⌜ r ≡ secondBy (now (card .entry)) (fieldOf layout number) ⌝ }
+{
+    let found = layout::field_of(layout, number);
+    let Found::Is(f) = found else {
+        return false;
+    };
+    second_at(card, f)
+}
+
+// Whether the second set of a card is present.
+fn any_second(card: &[u8], layout: usize) -> bool
+    requires { ⌜ length (now card) ≡ 80 ⌝ }
+    ensures { λ r. ⌜ r ≡ anySecond (now (card .entry)) (fieldsOf layout) ⌝ }
+{
+    let count = layout::fields_in(layout);
+    let mut n = 0;
+    while n < count {
+        n += 1;
+        if second_by(card, layout, n) {
+            return true;
+        }
+    }
+    false
+}
+
+// Whether a field is needed on the card as it stands.
+fn needed_on(card: &[u8], layout: usize, f: Field) -> bool
+    requires { ⌜ length (now card) ≡ 80 ⌝ }
+    ensures { λ r. ⌜ r ≡ neededOn layout (now (card .entry)) f ⌝ }
+{
+    if !f.needed {
+        return false;
+    }
+    if !f.second {
+        return true;
+    }
+    any_second(card, layout)
+}
+
+// A value held against its field's need and range.
+fn value_of(needed: bool, f: Field, v: Value) -> Judged
+    requires { ⌜ (1 ≤ f .first) × (f .first ≤ 80) × (textLast v ≤ 80) ⌝ }
+    ensures { λ r. ⌜ r ≡ valueOf needed f v ⌝ }
+{
+    match v {
+        Value::Absent => {
+            if needed {
+                return Judged::Not(11);
+            }
+            Judged::Is(Value::Absent)
+        }
+        Value::Whole(z) => {
+            if layout::in_range(f, z) {
+                return Judged::Is(Value::Whole(z));
+            }
+            Judged::Not(10)
+        }
+        Value::Decimal(d) => Judged::Is(Value::Decimal(d)),
+        Value::Angle(z) => Judged::Is(Value::Angle(z)),
+        Value::Date(d) => Judged::Is(Value::Date(d)),
+        Value::Text(c) => {
+            let first = f.first;
+            let last = first - 1 + c.last;
+            Judged::Is(Value::Text(Columns { first, last }))
+        }
+    }
+}
+
+// A reading held against its field's need and range.
+fn held_of(needed: bool, f: Field, r: Reading) -> Judged
+    requires { ⌜ (1 ≤ f .first) × (f .first ≤ 80) × (readLast r ≤ 80) ⌝ }
+    ensures { λ j. ⌜ j ≡ heldOf needed f r ⌝ }
+{
+    match r {
+        Reading::Held(v) => value_of(needed, f, v),
+        Reading::Malformed => Judged::Not(9),
+        Reading::OutOfRange => Judged::Not(10),
+    }
+}
+
+// What a field of a card says, or the number of its offence.
+pub fn judge(card: &[u8], layout: usize, f: Field, grid: bool) -> Judged
+    requires { ⌜ (length (now card) ≡ 80) × (1 ≤ f .first) × (f .first ≤ f .last) × (f .last ≤ 80) ⌝ }
+    ensures { λ r. ⌜ r ≡ judgedOf layout (now (card .entry)) f grid ⌝ }
+{
+    let first = f.first;
+    let last = f.last;
+    let kind = f.kind;
+    let reading = spelling::read(columns(card, first, last), spelling_of(kind, grid));
+    held_of(needed_on(card, layout, f), f, reading)
+}

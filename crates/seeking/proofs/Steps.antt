@@ -1,0 +1,113 @@
+-- What each way to a field finds.
+use Prim.Native.Nat.{ℕ, _+_, _≤_, _<_}
+use native.Mathlib.Omega.{arith}
+use mathlib.Core.Path.{_≡_, refl, sym, ap, _∙_}
+use mathlib.Core.List.{List}
+use mathlib.Core.Bool.{true≢false, Bool, true, false, cond, not}
+use lib.ListN.{length, getD, take}
+use lib.Dec.{eqb, ltb}
+use borrow.Author.Tests.{ne-eqb, le-leb, lt-leb, lt-ltb, le-ltb, ltb-false, eqb-true}
+use Rattle.layout.specs.declared.Code.{Code}
+use Rattle.layout.specs.declared.Code.the-variants as code
+use Rattle.layout.specs.declared.Field.{Field}
+use Rattle.layout.specs.declared.Found.{Found}
+use Rattle.layout.specs.declared.Found.the-variants as found
+use Rattle.layout.specs.Layouts.{codeOf, fieldOf}
+use Rattle.seeking.specs.declared.Sought.the-variants.{Is, Refused}
+use Rattle.seeking.specs.Card.{refusal, badAt, firstBad, underForm, coded, soughtOf}
+
+-- a byte that is printable, and one that is not
+pub bad-below : (s : List ℕ) (i : ℕ) → getD s i 0 < 32 → badAt s i ≡ true
+bad-below s i h = rw (lt-leb 32 (getD s i 0) h)
+
+pub bad-above : (s : List ℕ) (i : ℕ) → 126 < getD s i 0 → badAt s i ≡ true
+bad-above s i h = rw (le-leb 32 (getD s i 0) (omega arith), lt-leb (getD s i 0) 126 h)
+
+pub good-byte : (s : List ℕ) (i : ℕ) → 32 ≤ getD s i 0 → getD s i 0 ≤ 126 → badAt s i ≡ false
+good-byte s i h k = rw (le-leb 32 (getD s i 0) h, le-leb (getD s i 0) 126 k)
+
+-- the field with a number, under a form
+module _ (k form : ℕ) (o : Found) where
+  pub form-none : o ≡ found.Nothing → underForm k form o ≡ Refused (refusal 13 0 0)
+  unfolding underForm
+  form-none q = rw q
+
+  pub form-odd : (f : Field) → o ≡ found.Is f → 1 < form → underForm k form o ≡ Refused (refusal 10 0 0)
+  unfolding underForm
+  form-odd f q h = rw (q, lt-ltb 1 form h)
+
+  pub form-good : (f : Field) → o ≡ found.Is f → form ≤ 1 → underForm k form o ≡ Is k f
+  unfolding underForm
+  form-good f q h = rw (q, le-ltb 1 form h)
+
+-- the way to a field
+module _ (s : List ℕ) (n form : ℕ) where
+  pub sought-none : length s ≡ 0 → soughtOf s n form ≡ Refused (refusal 1 0 0)
+  unfolding soughtOf
+  sought-none h = rw h
+
+  module _ (some : length s ≡ 0 → ⊥) where
+    pub sought-odd : (length s ≡ 80 → ⊥) → soughtOf s n form ≡ Refused (refusal 2 0 0)
+    unfolding soughtOf
+    sought-odd h = rw (ne-eqb (length s) 0 some, ne-eqb (length s) 80 h)
+
+    module _ (whole : length s ≡ 80) (bad : ℕ) (is : bad ≡ firstBad s) where
+      pub sought-bad : bad < 80 → soughtOf s n form ≡ Refused (refusal 4 1 (bad + 1))
+      unfolding soughtOf
+      sought-bad h = rw (whole, ← is, lt-ltb bad 80 h)
+
+      pub sought-coded : 80 ≤ bad → soughtOf s n form ≡ coded (codeOf (take 5 s)) n form
+      unfolding soughtOf
+      sought-coded h = rw (whole, ← is, le-ltb bad 80 h)
+
+-- a field that was found stands in a layout, on a card of 80 columns, under form 0 or 1
+pub record There (s : List ℕ) (n form k : ℕ) (f : Field) : Type 0 where
+  pub whole : length s ≡ 80
+  pub field : fieldOf k n ≡ found.Is f
+  pub form-is : form ≤ 1
+
+sought-there : (s : List ℕ) (n form k : ℕ) (f : Field) → length s ≡ 80 → coded (codeOf (take 5 s)) n form ≡ Is k f → There s n form k f
+unfolding coded underForm
+sought-there s n form k f whole e = go (codeOf (take 5 s)) e
+  where
+    test : (j : ℕ) (g : Field) → fieldOf j n ≡ found.Is g → (b : Bool) → ltb 1 form ≡ b → cond b (Refused (refusal 10 0 0)) (Is j g) ≡ Is k f
+        → There s n form k f
+    test j g q true l h = absurd (true≢false cc)
+    test j g q false l h =
+        let a : j ≡ k = cc in
+        let b : g ≡ f = cc in
+        record { whole = whole; field = ap (λ i. fieldOf i n) (sym a) ∙ q ∙ ap found.Is b; form-is = ltb-false 1 form l }
+
+    under : (j : ℕ) (o : Found) → fieldOf j n ≡ o → underForm j form o ≡ Is k f → There s n form k f
+    under j found.Nothing q h = absurd (true≢false cc)
+    under j (found.Is g) q h = test j g q (ltb 1 form) refl h
+
+    go : (c : Code) → coded c n form ≡ Is k f → There s n form k f
+    go code.Unknown h = absurd (true≢false cc)
+    go code.Passed h = absurd (true≢false cc)
+    go (code.Read j) h = under j (fieldOf j n) refl h
+
+pub found-there : (s : List ℕ) (n form k : ℕ) (f : Field) → soughtOf s n form ≡ Is k f → There s n form k f
+unfolding soughtOf
+found-there s n form k f e = go (eqb (length s) 0) (eqb (length s) 80) refl (ltb (firstBad s) 80) e
+  where
+    go : (a b : Bool) → eqb (length s) 80 ≡ b → (c : Bool)
+        → cond a (Refused (refusal 1 0 0)) (cond (not b) (Refused (refusal 2 0 0)) (cond c (Refused (refusal 4 1 (firstBad s + 1))) (coded (codeOf (take 5 s)) n form))) ≡ Is k f
+        → There s n form k f
+    go true b q c h = absurd (true≢false cc)
+    go false false q c h = absurd (true≢false cc)
+    go false true q true h = absurd (true≢false cc)
+    go false true q false h = sought-there s n form k f (eqb-true (length s) 80 q) h
+
+-- a card on which a field was found has a code and no bad byte
+pub found-coded : (s : List ℕ) (n form k : ℕ) (f : Field) → soughtOf s n form ≡ Is k f → (80 ≤ firstBad s) × (coded (codeOf (take 5 s)) n form ≡ Is k f)
+unfolding soughtOf
+found-coded s n form k f e = go (eqb (length s) 0) (not (eqb (length s) 80)) (ltb (firstBad s) 80) refl e
+  where
+    go : (a b c : Bool) → ltb (firstBad s) 80 ≡ c
+        → cond a (Refused (refusal 1 0 0)) (cond b (Refused (refusal 2 0 0)) (cond c (Refused (refusal 4 1 (firstBad s + 1))) (coded (codeOf (take 5 s)) n form))) ≡ Is k f
+        → (80 ≤ firstBad s) × (coded (codeOf (take 5 s)) n form ≡ Is k f)
+    go true b c q h = absurd (true≢false cc)
+    go false true c q h = absurd (true≢false cc)
+    go false false true q h = absurd (true≢false cc)
+    go false false false q h = (ltb-false (firstBad s) 80 q, h)

@@ -1,0 +1,91 @@
+// A card's field found by its number: length, bytes and code of the card come first.
+use layout::Code;
+use layout::Field;
+use layout::Found;
+ghost use mathlib.Core.Path.{_≡_};
+ghost use Rattle.layout.specs.Layouts.{fieldOf};
+ghost use Rattle.seeking.specs.Card.{refusal, firstBad, underForm, soughtOf};
+
+const CARD: usize = 80;
+
+const CODE: usize = 5;
+
+// Why something is refused, and where: 0 for a card or a column where there is none.
+pub struct Refusal {
+    pub number: usize,
+    pub card: usize,
+    pub column: usize,
+}
+
+// The field that a number names, with its layout.
+pub enum Sought {
+    Is(usize, Field),
+    Refused(Refusal),
+}
+
+// A refusal on the way to a field.
+fn refused(number: usize, card: usize, column: usize) -> Sought
+    ensures { λ r. ⌜ r ≡ Sought.Refused (refusal number card column) ⌝ }
+{
+    Sought::Refused(Refusal {
+        number,
+        card,
+        column,
+    })
+}
+
+// The place of the first byte that is not printable, or the length.
+pub fn first_bad(s: &[u8]) -> usize
+    ensures { λ r. ⌜ r ≡ firstBad (now (s .entry)) ⌝ }
+{
+    let mut i = 0;
+    while i < s.len() {
+        let b = s[i];
+        if b < 32 {
+            return i;
+        }
+        if 126 < b {
+            return i;
+        }
+        i += 1;
+    }
+    i
+}
+
+// The field with a number in a layout, under a form.
+fn under_form(layout: usize, number: usize, form: usize) -> Sought
+    ensures { λ r. ⌜ r ≡ underForm layout form (fieldOf layout number) ⌝ }
+{
+    let found = layout::field_of(layout, number);
+    match found {
+        Found::Nothing => refused(13, 0, 0),
+        Found::Is(f) => {
+            if 1 < form {
+                return refused(10, 0, 0);
+            }
+            Sought::Is(layout, f)
+        }
+    }
+}
+
+// The field with a number on a card, or the first refusal on the way to it.
+pub fn seek(card: &[u8], number: usize, form: usize) -> Sought
+    ensures { λ r. ⌜ r ≡ soughtOf (now (card .entry)) number form ⌝ }
+{
+    if card.len() == 0 {
+        return refused(1, 0, 0);
+    }
+    if card.len() != CARD {
+        return refused(2, 0, 0);
+    }
+    let bad = first_bad(card);
+    if bad < CARD {
+        return refused(4, 1, bad + 1);
+    }
+    let code = layout::code_of(&card[..CODE]);
+    match code {
+        Code::Unknown => refused(5, 1, 1),
+        Code::Passed => refused(13, 0, 0),
+        Code::Read(k) => under_form(k, number, form),
+    }
+}
