@@ -7,7 +7,8 @@ use lib.ListN.{take, replicate}
 use Rattle.lists.specs.Count.{first, firstFrom}
 use Rattle.lists.specs.Parts.{alike}
 use Rattle.digits.specs.Figures.{blanks, unpadded, leading, behind, valueFrom}
-use Rattle.number.specs.Reading.{pointOf, figuresOf, signedOf, heldOf as numberHeld, signOf, numberOf as readNumber}
+use Rattle.number.specs.Reading.{pointOf, figuresOf, heldOf as numberHeld, signOf, numberOf as readNumber}
+use Rattle.signs.specs.Signs.{signedOf}
 use Rattle.text.specs.Texts.{textEnd, textOf, leadingBlank}
 use Rattle.date.specs.Calendar.{isLeap, isShort, daysIn, isDate}
 use Rattle.date.specs.Dates.{datedOf, dateOf}

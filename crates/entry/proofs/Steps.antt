@@ -18,7 +18,7 @@ use Rattle.digits.specs.declared.Written.{Written}
 use Rattle.digits.specs.declared.Written.the-variants as written
 use Rattle.digits.specs.Columns.{Entry, agreed, refused, enteredIn, roomOf}
 use Rattle.digits.specs.Columns.{answerOf as writtenOf}
-use Rattle.number.specs.Spelling.{decimalIn}
+use Rattle.numerals.specs.Spelling.{decimalIn}
 use Rattle.spelling.proofs.Value.{the-type}
 use Rattle.spelling.specs.declared.Value.{Value}
 use Rattle.spelling.specs.declared.Value.the-variants.{Absent, Whole, Decimal, Angle, Date, Text}

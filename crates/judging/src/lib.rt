@@ -7,7 +7,7 @@ use spelling::Reading;
 use spelling::Spelling;
 use spelling::Value;
 ghost use mathlib.Core.Path.{_≡_};
-ghost use Prim.Native.Nat.{_≤_, _<_, _-_};
+ghost use Prim.Native.Nat.{_≤_, _-_};
 ghost use lib.ListN.{length, take, drop};
 ghost use Rattle.layout.specs.Layouts.{fieldsOf, fieldOf};
 ghost use Rattle.judging.specs.Fields.{isBlank, spellingOf, secondAt, secondBy, anySecond, neededOn, textLast, readLast, valueOf, heldOf, judgedOf};

@@ -1,5 +1,1 @@
 pub mod Parsing
-pub mod Signs
-pub mod Writing
-pub mod Back
-pub mod Agreed

@@ -19,7 +19,8 @@ use Rattle.number.specs.declared.Figures.the-variants.{Units, Not}
 use Rattle.number.specs.declared.Decimal.{Decimal}
 use Rattle.number.specs.declared.Number.{Number}
 use Rattle.number.specs.declared.Number.the-variants.{Absent, Held, Malformed, OutOfRange}
-use Rattle.number.specs.Reading.{allDigits, countedOf, unitsOf, pointOf, figuresOf, signedOf, heldOf, signOf, numberOf}
+use Rattle.number.specs.Reading.{allDigits, countedOf, unitsOf, pointOf, figuresOf, heldOf, signOf, numberOf}
+use Rattle.signs.specs.Signs.{signedOf}
 
 -- nothing stands behind the digits
 ended : (t : List ℕ) → length (leading t) ≡ length t → behind t ≡ []

@@ -1,16 +1,15 @@
 -- How a number is read from its columns: blanks, at most one sign, digits, and in a decimal at most one point.
-use Prim.Native.Nat.{ℕ, zero, suc, _+_}
+use Prim.Native.Nat.{ℕ, _+_}
 use mathlib.Core.List.{List, [], _∷_, _++_}
 use mathlib.Core.Bool.{Bool, true, false, cond, _&&_}
 use lib.ListN.{length}
-use lib.Dec.{eqb, leb, ltb}
-use lib.IntN.{ℤ, pos, negℤ}
+use lib.Dec.{eqb, ltb}
 use Rattle.digits.specs.Figures.{unpadded, leading, behind, valueFrom, limit, capped}
-use Rattle.number.specs.declared.Decimal.{Decimal}
 use Rattle.number.specs.declared.Figures.{Figures}
 use Rattle.number.specs.declared.Figures.the-variants.{Units, Not}
 use Rattle.number.specs.declared.Number.{Number}
 use Rattle.number.specs.declared.Number.the-variants.{Absent, Held, Malformed, OutOfRange}
+use Rattle.signs.specs.Signs.{signedOf}
 
 -- nothing but digits
 abbrev pub allDigits : List ℕ → Bool
@@ -32,11 +31,6 @@ pointOf pointed a (c ∷ b) = cond (pointed && (eqb c 46 && allDigits b)) (units
 -- an unsigned number
 unfoldable pub figuresOf : Bool → List ℕ → Figures
 figuresOf pointed t = pointOf pointed (leading t) (behind t)
-
--- minus n, or n
-unfoldable pub signedOf : Bool → ℕ → ℤ
-signedOf true n = negℤ (pos n)
-signedOf false n = pos n
 
 -- an unsigned number with its sign
 unfoldable pub heldOf : Bool → Figures → Number

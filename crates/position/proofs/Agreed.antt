@@ -11,12 +11,14 @@ use lib.IntN.{ℤ, natAbs}
 use borrow.Author.Tests.{ne-eqb}
 use Rattle.digits.specs.Figures.{blanks}
 use Rattle.digits.specs.Columns.{agreed}
-use Rattle.number.specs.Reading.{signedOf, numberOf}
+use Rattle.signs.specs.Signs.{signedOf}
+use Rattle.number.specs.Reading.{numberOf}
 use Rattle.number.specs.declared.Decimal.{Decimal}
 use Rattle.number.specs.declared.Number.{Number}
 use Rattle.number.specs.declared.Number.the-variants.{Absent as Missing, Held as Holds, Malformed as Odd, OutOfRange as Outside}
-use Rattle.number.proofs.Agreed.{decimal-agreed, signed-size}
-use Rattle.number.specs.Spelling.{isMinus, plain}
+use Rattle.numerals.proofs.Agreed.{decimal-agreed, signed-size}
+use Rattle.signs.specs.Signs.{isMinus}
+use Rattle.numerals.specs.Spelling.{plain}
 use Rattle.position.specs.Axes.{boundOf, letterOf}
 use Rattle.position.specs.Angles.{unitsOf, partsOf, isSpelled, arcOf, angledOf, angleOf, figuresIn, angleIn}
 use Rattle.position.specs.Grid.{presentOf, gridOf, gridIn}

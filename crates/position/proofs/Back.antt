@@ -16,9 +16,10 @@ use Rattle.digits.specs.Digits.{digits}
 use Rattle.digits.specs.Columns.{agreed, refused}
 use Rattle.digits.proofs.Numbers.{digits-split}
 use Rattle.number.specs.Reading.{figuresOf, numberOf}
-use Rattle.number.specs.Spelling.{isMinus, plain, decimalIn}
+use Rattle.signs.specs.Signs.{isMinus}
+use Rattle.numerals.specs.Spelling.{plain, decimalIn}
 use Rattle.number.specs.declared.Decimal.{Decimal}
-use Rattle.number.proofs.Back.{sign-back, number-back}
+use Rattle.numerals.proofs.Back.{sign-back, number-back}
 use Rattle.number.specs.declared.Figures.the-variants.{Units}
 use Rattle.number.specs.declared.Number.the-variants.{Held as Holds}
 use Rattle.position.specs.Axes.{boundOf, letterOf}

@@ -13,7 +13,8 @@ use Rattle.digits.specs.Figures.{blanks, unpadded, leading, behind, valueFrom, 
 use Rattle.digits.proofs.Numbers.{value-below}
 use Rattle.digits.proofs.Parts.{rest-part}
 use Rattle.digits.proofs.Walk.{leading-take}
-use Rattle.number.specs.Reading.{pointOf, figuresOf, signedOf, numberOf}
+use Rattle.number.specs.Reading.{pointOf, figuresOf, numberOf}
+use Rattle.signs.specs.Signs.{signedOf}
 use Rattle.number.specs.declared.Figures.{Figures}
 use Rattle.number.specs.declared.Figures.the-variants.{Units, Not}
 use Rattle.number.specs.declared.Number.{Number}

@@ -11,9 +11,10 @@ use lib.IntN.{ℤ, natAbs}
 use borrow.Author.Tests.{eq-eqb, ne-eqb, le-leb, lt-leb}
 use Rattle.digits.specs.declared.Written.the-variants.{OutOfRange as Outside, NoRoom}
 use Rattle.digits.specs.Columns.{agreed, refused, fits, written}
-use Rattle.number.specs.Spelling.{isMinus, plain, plainIn, decimalIn}
+use Rattle.signs.specs.Signs.{isMinus}
+use Rattle.numerals.specs.Spelling.{plain, plainIn, decimalIn}
 use Rattle.number.specs.declared.Decimal.{Decimal}
-use Rattle.number.proofs.Writing.{plain-exact}
+use Rattle.numerals.proofs.Writing.{plain-exact}
 use Rattle.position.specs.Axes.{boundOf, letterOf}
 use Rattle.position.specs.Angles.{figuresIn, angleIn}
 use Rattle.position.specs.Grid.{gridIn}

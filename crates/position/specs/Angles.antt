@@ -8,8 +8,10 @@ use lib.IntN.{ℤ, natAbs}
 use Rattle.digits.specs.Figures.{blanks, unpadded}
 use Rattle.digits.specs.Columns.{Entry, agreed, refused}
 use Rattle.digits.specs.declared.Written.the-variants.{OutOfRange as Outside, NoRoom}
-use Rattle.number.specs.Reading.{figuresOf, signedOf}
-use Rattle.number.specs.Spelling.{isMinus, plain}
+use Rattle.number.specs.Reading.{figuresOf}
+use Rattle.signs.specs.Signs.{signedOf}
+use Rattle.signs.specs.Signs.{isMinus}
+use Rattle.numerals.specs.Spelling.{plain}
 use Rattle.number.specs.declared.Figures.{Figures}
 use Rattle.number.specs.declared.Figures.the-variants.{Units, Not}
 use Rattle.position.specs.Axes.{boundOf, letterOf, isLetter}

@@ -9,7 +9,7 @@ use Rattle.digits.specs.Figures.{blanks}
 use Rattle.digits.specs.Columns.{Entry, agreed, refused}
 use Rattle.digits.specs.declared.Written.the-variants.{NoRoom}
 use Rattle.number.specs.Reading.{numberOf}
-use Rattle.number.specs.Spelling.{decimalIn}
+use Rattle.numerals.specs.Spelling.{decimalIn}
 use Rattle.number.specs.declared.Decimal.{Decimal}
 use Rattle.number.specs.declared.Number.{Number}
 use Rattle.number.specs.declared.Number.the-variants.{Absent, Held, Malformed, OutOfRange}

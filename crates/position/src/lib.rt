@@ -3,7 +3,7 @@ ghost use mathlib.Core.Path.{_≡_};
 ghost use Prim.Native.Nat.{_<_, _≤_};
 ghost use lib.ListN.{length};
 ghost use Rattle.digits.specs.Columns.{answerOf, enteredIn};
-ghost use Rattle.number.specs.Reading.{signedOf};
+ghost use Rattle.signs.specs.Signs.{signedOf};
 ghost use Rattle.position.specs.Axes.{boundOf, letterOf};
 ghost use Rattle.position.specs.Angles.{paddedOf, isNumber, unitsOf, partsOf, isSpelled, angledOf, angleOf, figuresIn, angleIn};
 ghost use Rattle.position.specs.Grid.{presentOf, gridOf, gridIn};
@@ -162,7 +162,7 @@ fn judged(axis: Axis, minus: bool, p: Parts) -> Angled
     if bound(axis) < n {
         return Angled::OutOfRange;
     }
-    Angled::Held(number::signed(minus, n))
+    Angled::Held(signs::signed(minus, n))
 }
 
 // Reads the angle that fills s.
@@ -196,15 +196,15 @@ pub fn write_angle(columns: &mut [u8], axis: Axis, angle: i64) -> digits::Writte
     ensures answer { λ r. ⌜ r ≡ answerOf (angleIn axis (length (now (columns .entry))) angle) ⌝ }
     ensures columns { λ _. ⌜ now (columns .exit) ≡ enteredIn (angleIn axis (length (now (columns .entry))) angle) (now (columns .entry)) ⌝ }
 {
-    let n = number::magnitude(angle);
+    let n = signs::magnitude(angle);
     if bound(axis) < n {
         return digits::Written::OutOfRange;
     }
     if columns.len() != WIDTH {
         return digits::Written::NoRoom;
     }
-    number::write_plain(&mut columns[..LAST], figures(n), 3);
-    columns[LAST] = letter(axis, number::below_zero(angle));
+    numerals::write_plain(&mut columns[..LAST], figures(n), 3);
+    columns[LAST] = letter(axis, signs::below_zero(angle));
     digits::Written::Done
 }
 
@@ -243,7 +243,7 @@ pub fn write_grid(columns: &mut [u8], axis: Axis, d: number::Decimal) -> digits:
         return digits::Written::NoRoom;
     }
     let last = columns.len() - 1;
-    if !number::write_decimal(&mut columns[..last], d) {
+    if !numerals::write_decimal(&mut columns[..last], d) {
         return digits::Written::NoRoom;
     }
     columns[last] = letter(axis, false);

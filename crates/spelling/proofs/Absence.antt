@@ -13,8 +13,9 @@ use Rattle.digits.specs.Figures.{blanks, unpadded, valueFrom}
 use Rattle.digits.proofs.Walk.{blank-all, all-blank, unpadded-none}
 use Rattle.number.specs.declared.Number.{Number}
 use Rattle.number.specs.declared.Number.the-variants.{Absent as NoNumber, Held as Numeral, Malformed as OddNumber, OutOfRange as LargeNumber}
-use Rattle.number.specs.Reading.{allDigits, numberOf, signOf, signedOf}
-use Rattle.number.proofs.Agreed.{absent-blank}
+use Rattle.number.specs.Reading.{allDigits, numberOf, signOf}
+use Rattle.signs.specs.Signs.{signedOf}
+use Rattle.numerals.proofs.Agreed.{absent-blank}
 use Rattle.date.specs.declared.Dated.{Dated}
 use Rattle.date.specs.declared.Dated.the-variants.{Absent as NoDate, Held as Day, Malformed as OddDate, OutOfRange as NoDay}
 use Rattle.date.specs.Calendar.{isDate}

@@ -12,8 +12,8 @@ use Rattle.number.specs.declared.Decimal.{Decimal as DecimalOf}
 use Rattle.number.specs.declared.Number.{Number}
 use Rattle.number.specs.declared.Number.the-variants.{Absent as NoNumber, Held as Numeral, Malformed as OddNumber, OutOfRange as LargeNumber}
 use Rattle.number.specs.Reading.{numberOf}
-use Rattle.number.specs.Spelling.{decimalIn}
-use Rattle.number.proofs.Agreed.{decimal-agreed, whole-places}
+use Rattle.numerals.specs.Spelling.{decimalIn}
+use Rattle.numerals.proofs.Agreed.{decimal-agreed, whole-places}
 use Rattle.date.specs.declared.Dated.{Dated}
 use Rattle.date.specs.declared.Dated.the-variants.{Absent as NoDate, Held as Day, Malformed as OddDate, OutOfRange as NoDay}
 use Rattle.date.specs.Dates.{dateOf, dateIn}

@@ -10,8 +10,8 @@ use borrow.Author.Tests.{ne-eqb}
 use Rattle.digits.specs.declared.Written.{Written}
 use Rattle.digits.specs.declared.Written.the-variants.{OtherKind, NoRoom}
 use Rattle.digits.specs.Columns.{Entry, agreed, refused, roomOf}
-use Rattle.number.specs.Spelling.{decimalIn}
-use Rattle.number.proofs.Back.{number-back}
+use Rattle.numerals.specs.Spelling.{decimalIn}
+use Rattle.numerals.proofs.Back.{number-back}
 use Rattle.date.proofs.Back.{date-back}
 use Rattle.position.specs.declared.Axis.{Axis}
 use Rattle.position.specs.declared.Axis.the-variants.{Y, X}

@@ -11,8 +11,9 @@ use Rattle.digits.specs.Columns.{Entry, agreed, refused}
 use Rattle.digits.specs.Figures.{blanks, unpadded, leading, behind, valueFrom}
 use Rattle.digits.specs.Digits.{digits, sizeUpTo}
 use Rattle.digits.specs.Columns.{rightAdjusted}
-use Rattle.number.specs.Reading.{pointOf, figuresOf, signedOf, heldOf, signOf, numberOf}
-use Rattle.number.specs.Spelling.{sign, plain, spelled, unitsIn as unitsAt, decimalIn}
+use Rattle.number.specs.Reading.{pointOf, figuresOf, heldOf, signOf, numberOf}
+use Rattle.signs.specs.Signs.{signedOf}
+use Rattle.numerals.specs.Spelling.{sign, plain, spelled, unitsIn as unitsAt, decimalIn}
 use Rattle.date.specs.Calendar.{isLeap, isShort, daysIn, isDate}
 use Rattle.date.specs.Dates.{datedOf, dateOf, dateIn}
 use Rattle.position.specs.Axes.{boundOf, letterOf}

@@ -16,8 +16,9 @@ use Rattle.digits.specs.Columns.{Entry, agreed, refused, roomOf, rightAdjusted,
 use Rattle.digits.specs.declared.Written.the-variants as written
 use Rattle.digits.proofs.Bools.{and-left, and-right, and-both}
 use Rattle.number.specs.declared.Decimal.{Decimal as DecimalOf}
-use Rattle.number.specs.Spelling.{isMinus, sign, pointed, plain, spelled, unitsIn as unitsAt, decimalIn}
-use Rattle.number.proofs.Back.{adjusted-back}
+use Rattle.signs.specs.Signs.{isMinus}
+use Rattle.numerals.specs.Spelling.{sign, pointed, plain, spelled, unitsIn as unitsAt, decimalIn}
+use Rattle.numerals.proofs.Back.{adjusted-back}
 use Rattle.date.specs.declared.Date.{Date as DateOf}
 use Rattle.date.specs.Calendar.{isDate}
 use Rattle.date.specs.Dates.{numberOf, dateIn}

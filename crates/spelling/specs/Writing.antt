@@ -6,7 +6,7 @@ use lib.ListN.{length, replicate}
 use lib.IntN.{ℤ}
 use Rattle.digits.specs.declared.Written.the-variants.{Malformed as Odd, OutOfRange as Outside, OtherKind}
 use Rattle.digits.specs.Columns.{Entry, agreed, refused, roomOf}
-use Rattle.number.specs.Spelling.{decimalIn}
+use Rattle.numerals.specs.Spelling.{decimalIn}
 use Rattle.date.specs.Dates.{dateIn}
 use Rattle.position.specs.declared.Axis.{Axis}
 use Rattle.position.specs.declared.Axis.the-variants.{Y, X}

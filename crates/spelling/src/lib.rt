@@ -9,7 +9,7 @@ use position::Axis;
 ghost use mathlib.Core.Path.{_≡_};
 ghost use lib.ListN.{length};
 ghost use Rattle.digits.specs.Columns.{answerOf, enteredIn, roomOf};
-ghost use Rattle.number.specs.Spelling.{decimalIn};
+ghost use Rattle.numerals.specs.Spelling.{decimalIn};
 ghost use Rattle.spelling.specs.Reading.{textReading, wholeReading, decimalReading, dateReading, angleReading, readingOf, isText, textRead};
 ghost use Rattle.spelling.specs.Writing.{blanked, noValueIn, wholeIn, unitsIn, dayIn, arcIn, gridEntryIn, entryOf, textEntryOf};
 
@@ -163,7 +163,7 @@ fn write_units(columns: &mut [u8], d: Decimal) -> Written
     ensures answer { λ r. ⌜ r ≡ answerOf (roomOf (decimalIn (length (now (columns .entry))) d)) ⌝ }
     ensures columns { λ _. ⌜ now (columns .exit) ≡ enteredIn (roomOf (decimalIn (length (now (columns .entry))) d)) (now (columns .entry)) ⌝ }
 {
-    if number::write_decimal(columns, d) {
+    if numerals::write_decimal(columns, d) {
         return Written::Done;
     }
     Written::NoRoom

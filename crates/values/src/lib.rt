@@ -120,11 +120,11 @@ pub fn value_in(s: &[u8]) -> Offer {
 fn push_signed(out: &mut [u8], n: usize, z: i64) -> usize
     ensures { λ r. ⌜ r ≤ max n (length (now (out .entry))) ⌝ }
 {
-    if number::below_zero(z) {
+    if signs::below_zero(z) {
         let end = page::push_all(out, n, b" -");
-        return page::push_number(out, end, number::magnitude(z));
+        return page::push_number(out, end, signs::magnitude(z));
     }
-    page::push_next(out, n, number::magnitude(z))
+    page::push_next(out, n, signs::magnitude(z))
 }
 
 // Puts units and places.

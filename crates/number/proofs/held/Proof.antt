@@ -2,14 +2,14 @@ use Rattle.number.proofs.Parsing.{held-not, held-units, held-large}
 use mir.ValLaws.{toZ-ofZ}
 use mir.Syntax.{w64}
 use mathlib.Core.Path.{ap, _∙_}
-use Rattle.number.specs.Reading.{signedOf}
+use Rattle.signs.specs.Signs.{signedOf}
 use native.Mathlib.Omega.{arith}
 use borrow.Author.Needs.{needs}
 use Rattle.number.proofs.held.Statement.{statement}
 use Rattle.number.proofs.held.Tie as tie
 use Rattle.number.proofs.held.Reads as reads
 use Rattle.number.proofs.held.Lts as lts
-use Rattle.number.proofs.signed.Reads as signed-reads
+use Rattle.signs.proofs.signed.Reads as signed-reads
 
 -- src/lib.rt:88:25
 enum-told : tie.Need-enum-told

@@ -1,6 +1,6 @@
 -- `position::judged` meets its contract.
 use mathlib.Core.Path.{ap, _∙_}
-use Rattle.number.specs.Reading.{signedOf}
+use Rattle.signs.specs.Signs.{signedOf}
 use mir.Syntax.{w64}
 use mir.ValLaws.{toZ-ofZ}
 use Rattle.position.proofs.Reading.{minutes-outside, seconds-outside, arc-outside, arc-within}

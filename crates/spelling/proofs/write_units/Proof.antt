@@ -1,5 +1,5 @@
 use Rattle.spelling.proofs.Ways.{room-done, room-none}
-use Rattle.number.specs.Spelling.{decimalIn}
+use Rattle.numerals.specs.Spelling.{decimalIn}
 use lib.ListN.{length}
 use denote.Ref.{now}
 use native.Mathlib.Omega.{arith}
@@ -8,7 +8,7 @@ use Rattle.spelling.proofs.write_units.Statement.{statement}
 use Rattle.spelling.proofs.write_units.Tie as tie
 use Rattle.spelling.proofs.write_units.Reads as reads
 use Rattle.spelling.proofs.write_units.Lts as lts
-use Rattle.number.proofs.write_decimal.Reads as write-decimal-reads
+use Rattle.numerals.proofs.write_decimal.Reads as write-decimal-reads
 
 -- src/lib.rt:166:8
 write-decimal-requires : tie.Need-write-decimal-requires
