@@ -16,9 +16,9 @@ use Rattle.spelling.specs.declared.Value.the-variants.{Absent, Whole, Decimal, 
 use Rattle.spelling.specs.declared.Reading.{Reading}
 use Rattle.spelling.specs.declared.Reading.the-variants as reading
 use Rattle.spelling.specs.Reading.{readingOf, isText, textRead}
-use Rattle.spelling.specs.Writing.{entryOf, textEntryOf}
-use Rattle.spelling.proofs.Back.{value-back, text-read-back as field-text-back}
-use Rattle.spelling.proofs.Printed.{both, value-printed, text-printed}
+use Rattle.writing.specs.Writing.{entryOf, textEntryOf}
+use Rattle.writing.proofs.Back.{value-back, text-read-back as field-text-back}
+use Rattle.writing.proofs.Printed.{both, value-printed, text-printed}
 use Rattle.layout.specs.declared.Field.{Field}
 use Rattle.layout.specs.Layouts.{codeOf, inRange}
 use Rattle.layout.proofs.Numbers.{found-lies}

@@ -24,7 +24,7 @@ use Rattle.spelling.specs.declared.Value.{Value}
 use Rattle.spelling.specs.declared.Value.the-variants.{Absent, Whole, Decimal, Angle, Date, Text}
 use Rattle.spelling.specs.declared.Spelling.{Spelling}
 use Rattle.spelling.specs.declared.Spelling.the-variants as spelled
-use Rattle.spelling.specs.Writing.{blanked, noValueIn, wholeIn, unitsIn, dayIn, arcIn, gridEntryIn, entryOf, textEntryOf}
+use Rattle.writing.specs.Writing.{blanked, noValueIn, wholeIn, unitsIn, dayIn, arcIn, gridEntryIn, entryOf, textEntryOf}
 use Rattle.layout.specs.declared.Kind.{Kind}
 use Rattle.layout.specs.declared.Kind.the-variants as kind
 use Rattle.layout.specs.declared.Range.{Range}

@@ -10,9 +10,9 @@ use Rattle.digits.specs.declared.Written.{Written}
 use Rattle.digits.specs.declared.Written.the-variants as written
 use Rattle.digits.specs.Columns.{Entry, agreed, refused}
 use Rattle.spelling.specs.declared.Value.{Value}
-use Rattle.spelling.specs.Writing.{entryOf, textEntryOf}
+use Rattle.writing.specs.Writing.{entryOf, textEntryOf}
 use Rattle.spelling.proofs.Absence.{zero-one}
-use Rattle.spelling.proofs.Back.{value-back, text-read-back}
+use Rattle.writing.proofs.Back.{value-back, text-read-back}
 use Rattle.layout.specs.declared.Field.{Field}
 use Rattle.seeking.specs.declared.Refusal.{Refusal}
 use Rattle.seeking.specs.declared.Sought.{Sought}

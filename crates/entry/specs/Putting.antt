@@ -9,7 +9,7 @@ use Rattle.digits.specs.declared.Written.the-variants as written
 use Rattle.digits.specs.Columns.{Entry, agreed, refused, refusalOf}
 use Rattle.spelling.specs.declared.Value.{Value}
 use Rattle.spelling.specs.declared.Value.the-variants.{Absent, Whole, Decimal, Angle, Date, Text}
-use Rattle.spelling.specs.Writing.{entryOf, textEntryOf}
+use Rattle.writing.specs.Writing.{entryOf, textEntryOf}
 use Rattle.layout.specs.declared.Field.{Field}
 use Rattle.layout.specs.Layouts.{fieldsOf, inRange}
 use Rattle.seeking.specs.declared.Refusal.{Refusal}

@@ -14,7 +14,7 @@ ghost use Rattle.layout.proofs.Columns.{ranged};
 ghost use Rattle.layout.specs.Layouts.{fieldsOf, fieldOf};
 ghost use Rattle.seeking.specs.Card.{refusal};
 ghost use Rattle.judging.specs.Fields.{spellingOf, secondBy};
-ghost use Rattle.spelling.specs.Writing.{entryOf, textEntryOf};
+ghost use Rattle.writing.specs.Writing.{entryOf, textEntryOf};
 ghost use Rattle.entry.specs.Putting.{cameOf, answerOf, leftBy, isAbsent, within, otherSecond, neededAfter, byEntry, width, valuePut, puttingOf, puttingTextOf};
 
 // The answer to an entry; unless it is done the card is as it was.
@@ -105,7 +105,7 @@ fn write_value(card: &mut [u8], f: Field, grid: bool, v: Value) -> Entered
     let last = f.last;
     let kind = f.kind;
     let spelling = judging::spelling_of(kind, grid);
-    answer_for(spelling::write(&mut card[at..last], spelling, v))
+    answer_for(writing::write(&mut card[at..last], spelling, v))
 }
 
 // Writes a text into its field's columns.
@@ -118,7 +118,7 @@ fn write_text(card: &mut [u8], f: Field, grid: bool, text: &[u8]) -> Entered
     let last = f.last;
     let kind = f.kind;
     let spelling = judging::spelling_of(kind, grid);
-    answer_for(spelling::write_text(&mut card[at..last], spelling, text))
+    answer_for(writing::write_text(&mut card[at..last], spelling, text))
 }
 
 // Enters a value into a field that was found.

@@ -94,7 +94,7 @@ fn enter_value(
     if columns.len() < w {
         return page::push_unknown(out, n);
     }
-    let came = spelling::write(&mut columns[..w], k, v);
+    let came = writing::write(&mut columns[..w], k, v);
     push_written(out, n, came, script::front(columns, w))
 }
 
@@ -126,7 +126,7 @@ fn enter_text(
     if columns.len() < w {
         return page::push_unknown(out, n);
     }
-    let came = spelling::write_text(&mut columns[..w], k, text);
+    let came = writing::write_text(&mut columns[..w], k, text);
     push_written(out, n, came, script::front(columns, w))
 }
 

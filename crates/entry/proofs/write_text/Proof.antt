@@ -2,7 +2,7 @@ use borrow.Rule.Slice.PartMut.{same-len-mid}
 use mathlib.Core.Path.{ap₂}
 use Rattle.entry.proofs.Steps.{columns-wide, put-entry}
 use Rattle.entry.specs.Putting.{width}
-use Rattle.spelling.specs.Writing.{textEntryOf}
+use Rattle.writing.specs.Writing.{textEntryOf}
 use Rattle.judging.specs.Fields.{spellingOf}
 use Rattle.digits.specs.Columns.{answerOf as writtenOf, enteredIn}
 use lib.ListN.{length, take, drop}
@@ -17,7 +17,7 @@ use Rattle.entry.proofs.write_text.Reads as reads
 use Rattle.entry.proofs.write_text.Lts as lts
 use Rattle.entry.proofs.answer_for.Reads as answer-for-reads
 use Rattle.judging.proofs.spelling_of.Reads as spelling-of-reads
-use Rattle.spelling.proofs.write_text.Reads as write-text-reads
+use Rattle.writing.proofs.write_text.Reads as write-text-reads
 
 -- src/lib.rt:117:14
 sub-at : tie.Need-sub-at

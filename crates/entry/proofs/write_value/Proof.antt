@@ -2,7 +2,7 @@ use borrow.Rule.Slice.PartMut.{same-len-mid}
 use mathlib.Core.Path.{ap₂}
 use Rattle.entry.proofs.Steps.{columns-wide, put-entry}
 use Rattle.entry.specs.Putting.{width}
-use Rattle.spelling.specs.Writing.{entryOf}
+use Rattle.writing.specs.Writing.{entryOf}
 use Rattle.judging.specs.Fields.{spellingOf}
 use Rattle.digits.specs.Columns.{answerOf as writtenOf, enteredIn}
 use lib.ListN.{length, take, drop}
@@ -17,7 +17,7 @@ use Rattle.entry.proofs.write_value.Reads as reads
 use Rattle.entry.proofs.write_value.Lts as lts
 use Rattle.entry.proofs.answer_for.Reads as answer-for-reads
 use Rattle.judging.proofs.spelling_of.Reads as spelling-of-reads
-use Rattle.spelling.proofs.write.Reads as write-reads
+use Rattle.writing.proofs.write.Reads as write-reads
 
 -- src/lib.rt:104:14
 sub-at : tie.Need-sub-at

@@ -1,6 +1,6 @@
-use Rattle.spelling.proofs.Ways.{same-entry, no-arc}
-use Rattle.spelling.specs.Writing.{arcIn}
+use Rattle.writing.proofs.Ways.{same-entry, no-arc}
+use Rattle.writing.specs.Writing.{arcIn}
 use Rattle.spelling.specs.declared.Value.the-variants.{Angle}
 use Rattle.digits.proofs.Answers.{turned-away}
 use denote.Ref.{now}
 use mir.ValLaws.{toZ-ofZ}
@@ -10,12 +10,12 @@ use lib.ListN.{length}
 use mathlib.Core.Path.{sym, ap, _∙_}
 use native.Mathlib.Omega.{arith}
 use borrow.Author.Needs.{needs}
-use Rattle.spelling.proofs.write_arc.Statement.{statement}
-use Rattle.spelling.proofs.write_arc.Tie as tie
-use Rattle.spelling.proofs.write_arc.Reads as reads
-use Rattle.spelling.proofs.write_arc.Lts as lts
+use Rattle.writing.proofs.write_arc.Statement.{statement}
+use Rattle.writing.proofs.write_arc.Tie as tie
+use Rattle.writing.proofs.write_arc.Reads as reads
+use Rattle.writing.proofs.write_arc.Lts as lts
 use Rattle.position.proofs.write_angle.Reads as write-angle-reads
-use Rattle.spelling.proofs.blank.Reads as blank-reads
+use Rattle.writing.proofs.blank.Reads as blank-reads
 
 -- src/lib.rt:231:32
 enum-told : tie.Need-enum-told

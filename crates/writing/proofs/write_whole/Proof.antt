@@ -1,6 +1,6 @@
-use Rattle.spelling.proofs.Ways.{same-entry, no-whole}
-use Rattle.spelling.specs.Writing.{wholeIn}
+use Rattle.writing.proofs.Ways.{same-entry, no-whole}
+use Rattle.writing.specs.Writing.{wholeIn}
 use Rattle.spelling.specs.declared.Value.the-variants.{Whole}
 use Rattle.digits.proofs.Answers.{turned-away}
 use denote.Ref.{now}
 use mir.ValLaws.{toZ-ofZ}
@@ -10,12 +10,12 @@ use lib.ListN.{length}
 use mathlib.Core.Path.{sym, ap, _∙_}
 use native.Mathlib.Omega.{arith}
 use borrow.Author.Needs.{needs}
-use Rattle.spelling.proofs.write_whole.Statement.{statement}
-use Rattle.spelling.proofs.write_whole.Tie as tie
-use Rattle.spelling.proofs.write_whole.Reads as reads
-use Rattle.spelling.proofs.write_whole.Lts as lts
-use Rattle.spelling.proofs.blank.Reads as blank-reads
-use Rattle.spelling.proofs.write_units.Reads as write-units-reads
+use Rattle.writing.proofs.write_whole.Statement.{statement}
+use Rattle.writing.proofs.write_whole.Tie as tie
+use Rattle.writing.proofs.write_whole.Reads as reads
+use Rattle.writing.proofs.write_whole.Lts as lts
+use Rattle.writing.proofs.blank.Reads as blank-reads
+use Rattle.writing.proofs.write_units.Reads as write-units-reads
 
 -- src/lib.rt:189:32
 enum-told : tie.Need-enum-told

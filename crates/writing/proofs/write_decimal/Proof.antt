@@ -1,17 +1,17 @@
-use Rattle.spelling.proofs.Ways.{same-entry, no-decimal}
-use Rattle.spelling.specs.Writing.{unitsIn}
+use Rattle.writing.proofs.Ways.{same-entry, no-decimal}
+use Rattle.writing.specs.Writing.{unitsIn}
 use Rattle.digits.proofs.Answers.{turned-away}
 use denote.Ref.{now}
 use lib.ListN.{length}
 use mathlib.Core.Path.{ap}
 use native.Mathlib.Omega.{arith}
 use borrow.Author.Needs.{needs}
-use Rattle.spelling.proofs.write_decimal.Statement.{statement}
-use Rattle.spelling.proofs.write_decimal.Tie as tie
-use Rattle.spelling.proofs.write_decimal.Reads as reads
-use Rattle.spelling.proofs.write_decimal.Lts as lts
-use Rattle.spelling.proofs.blank.Reads as blank-reads
-use Rattle.spelling.proofs.write_units.Reads as write-units-reads
+use Rattle.writing.proofs.write_decimal.Statement.{statement}
+use Rattle.writing.proofs.write_decimal.Tie as tie
+use Rattle.writing.proofs.write_decimal.Reads as reads
+use Rattle.writing.proofs.write_decimal.Lts as lts
+use Rattle.writing.proofs.blank.Reads as blank-reads
+use Rattle.writing.proofs.write_units.Reads as write-units-reads
 
 -- src/lib.rt:207:32
 enum-told : tie.Need-enum-told

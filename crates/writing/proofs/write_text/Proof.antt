@@ -1,15 +1,15 @@
-use Rattle.spelling.proofs.Ways.{same-entry, no-text}
-use Rattle.spelling.specs.Writing.{textEntryOf}
+use Rattle.writing.proofs.Ways.{same-entry, no-text}
+use Rattle.writing.specs.Writing.{textEntryOf}
 use Rattle.digits.proofs.Answers.{turned-away}
 use denote.Ref.{now}
 use lib.ListN.{length}
 use mathlib.Core.Path.{ap}
 use native.Mathlib.Omega.{arith}
 use borrow.Author.Needs.{needs}
-use Rattle.spelling.proofs.write_text.Statement.{statement}
-use Rattle.spelling.proofs.write_text.Tie as tie
-use Rattle.spelling.proofs.write_text.Reads as reads
-use Rattle.spelling.proofs.write_text.Lts as lts
+use Rattle.writing.proofs.write_text.Statement.{statement}
+use Rattle.writing.proofs.write_text.Tie as tie
+use Rattle.writing.proofs.write_text.Reads as reads
+use Rattle.writing.proofs.write_text.Lts as lts
 use Rattle.text.proofs.write_text.Reads as write-text-reads
 
 -- src/lib.rt:273:44

@@ -1,17 +1,17 @@
-use Rattle.spelling.proofs.Ways.{same-entry, no-day}
-use Rattle.spelling.specs.Writing.{dayIn}
+use Rattle.writing.proofs.Ways.{same-entry, no-day}
+use Rattle.writing.specs.Writing.{dayIn}
 use Rattle.digits.proofs.Answers.{turned-away}
 use denote.Ref.{now}
 use lib.ListN.{length}
 use mathlib.Core.Path.{ap}
 use native.Mathlib.Omega.{arith}
 use borrow.Author.Needs.{needs}
-use Rattle.spelling.proofs.write_day.Statement.{statement}
-use Rattle.spelling.proofs.write_day.Tie as tie
-use Rattle.spelling.proofs.write_day.Reads as reads
-use Rattle.spelling.proofs.write_day.Lts as lts
+use Rattle.writing.proofs.write_day.Statement.{statement}
+use Rattle.writing.proofs.write_day.Tie as tie
+use Rattle.writing.proofs.write_day.Reads as reads
+use Rattle.writing.proofs.write_day.Lts as lts
 use Rattle.date.proofs.write_date.Reads as write-date-reads
-use Rattle.spelling.proofs.blank.Reads as blank-reads
+use Rattle.writing.proofs.blank.Reads as blank-reads
 
 -- src/lib.rt:219:32
 enum-told : tie.Need-enum-told

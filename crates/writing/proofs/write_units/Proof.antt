@@ -1,13 +1,13 @@
-use Rattle.spelling.proofs.Ways.{room-done, room-none}
+use Rattle.writing.proofs.Ways.{room-done, room-none}
 use Rattle.numerals.specs.Spelling.{decimalIn}
 use lib.ListN.{length}
 use denote.Ref.{now}
 use native.Mathlib.Omega.{arith}
 use borrow.Author.Needs.{needs}
-use Rattle.spelling.proofs.write_units.Statement.{statement}
-use Rattle.spelling.proofs.write_units.Tie as tie
-use Rattle.spelling.proofs.write_units.Reads as reads
-use Rattle.spelling.proofs.write_units.Lts as lts
+use Rattle.writing.proofs.write_units.Statement.{statement}
+use Rattle.writing.proofs.write_units.Tie as tie
+use Rattle.writing.proofs.write_units.Reads as reads
+use Rattle.writing.proofs.write_units.Lts as lts
 use Rattle.numerals.proofs.write_decimal.Reads as write-decimal-reads
 
 -- src/lib.rt:166:8

@@ -1,16 +1,16 @@
-use Rattle.spelling.proofs.Ways.{same-entry, no-value}
-use Rattle.spelling.specs.Writing.{noValueIn}
+use Rattle.writing.proofs.Ways.{same-entry, no-value}
+use Rattle.writing.specs.Writing.{noValueIn}
 use Rattle.digits.proofs.Answers.{turned-away}
 use denote.Ref.{now}
 use lib.ListN.{length}
 use mathlib.Core.Path.{ap}
 use native.Mathlib.Omega.{arith}
 use borrow.Author.Needs.{needs}
-use Rattle.spelling.proofs.write_nothing.Statement.{statement}
-use Rattle.spelling.proofs.write_nothing.Tie as tie
-use Rattle.spelling.proofs.write_nothing.Reads as reads
-use Rattle.spelling.proofs.write_nothing.Lts as lts
-use Rattle.spelling.proofs.blank.Reads as blank-reads
+use Rattle.writing.proofs.write_nothing.Statement.{statement}
+use Rattle.writing.proofs.write_nothing.Tie as tie
+use Rattle.writing.proofs.write_nothing.Reads as reads
+use Rattle.writing.proofs.write_nothing.Lts as lts
+use Rattle.writing.proofs.blank.Reads as blank-reads
 
 -- src/lib.rt:178:32
 enum-told : tie.Need-enum-told

@@ -1,20 +1,20 @@
-use Rattle.spelling.proofs.Ways.{same-entry}
-use Rattle.spelling.specs.Writing.{entryOf}
+use Rattle.writing.proofs.Ways.{same-entry}
+use Rattle.writing.specs.Writing.{entryOf}
 use denote.Ref.{now}
 use lib.ListN.{length}
 use mathlib.Core.Path.{ap}
 use native.Mathlib.Omega.{arith}
 use borrow.Author.Needs.{needs}
-use Rattle.spelling.proofs.write.Statement.{statement}
-use Rattle.spelling.proofs.write.Tie as tie
-use Rattle.spelling.proofs.write.Reads as reads
-use Rattle.spelling.proofs.write.Lts as lts
-use Rattle.spelling.proofs.write_arc.Reads as write-arc-reads
-use Rattle.spelling.proofs.write_day.Reads as write-day-reads
-use Rattle.spelling.proofs.write_decimal.Reads as write-decimal-reads
-use Rattle.spelling.proofs.write_grid.Reads as write-grid-reads
-use Rattle.spelling.proofs.write_nothing.Reads as write-nothing-reads
-use Rattle.spelling.proofs.write_whole.Reads as write-whole-reads
+use Rattle.writing.proofs.write.Statement.{statement}
+use Rattle.writing.proofs.write.Tie as tie
+use Rattle.writing.proofs.write.Reads as reads
+use Rattle.writing.proofs.write.Lts as lts
+use Rattle.writing.proofs.write_arc.Reads as write-arc-reads
+use Rattle.writing.proofs.write_day.Reads as write-day-reads
+use Rattle.writing.proofs.write_decimal.Reads as write-decimal-reads
+use Rattle.writing.proofs.write_grid.Reads as write-grid-reads
+use Rattle.writing.proofs.write_nothing.Reads as write-nothing-reads
+use Rattle.writing.proofs.write_whole.Reads as write-whole-reads
 
 -- src/lib.rt:255:41
 enum-told : tie.Need-enum-told

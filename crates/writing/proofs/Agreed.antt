@@ -27,17 +27,17 @@ use Rattle.position.specs.Grid.{gridOf}
 use Rattle.position.proofs.Agreed.{angle-agreed, grid-agreed}
 use Rattle.text.specs.Texts.{textEnd, textOf, printable, leadingBlank, textIn}
 use Rattle.text.proofs.Agreed.{text-again}
 use Rattle.spelling.specs.declared.Columns.{Columns}
 use Rattle.spelling.specs.declared.Value.{Value}
 use Rattle.spelling.specs.declared.Value.the-variants.{Absent, Whole, Decimal, Angle, Date, Text}
 use Rattle.spelling.specs.declared.Reading.{Reading}
 use Rattle.spelling.specs.declared.Reading.the-variants.{Held, Malformed, OutOfRange}
 use Rattle.spelling.specs.declared.Spelling.{Spelling}
 use Rattle.spelling.specs.declared.Spelling.the-variants as spelled
 use Rattle.spelling.specs.Reading.{textReading, wholeReading, decimalReading, dateReading, angleReading, readingOf, isText}
-use Rattle.spelling.specs.Writing.{noValueIn, wholeIn, unitsIn, dayIn, arcIn, gridEntryIn, entryOf, textEntryOf, againIn, rewrittenOf}
+use Rattle.writing.specs.Writing.{noValueIn, wholeIn, unitsIn, dayIn, arcIn, gridEntryIn, entryOf, textEntryOf, againIn, rewrittenOf}
 use Rattle.spelling.proofs.Absence.{zero-one}
-use Rattle.spelling.proofs.Back.{value-back}
+use Rattle.writing.proofs.Back.{value-back}
 
 -- a text that it agrees to
 abbrev Agrees : Entry → Type 0

@@ -1,17 +1,17 @@
-use Rattle.spelling.proofs.Ways.{same-entry, no-grid}
-use Rattle.spelling.specs.Writing.{gridEntryIn}
+use Rattle.writing.proofs.Ways.{same-entry, no-grid}
+use Rattle.writing.specs.Writing.{gridEntryIn}
 use Rattle.digits.proofs.Answers.{turned-away}
 use denote.Ref.{now}
 use lib.ListN.{length}
 use mathlib.Core.Path.{ap}
 use native.Mathlib.Omega.{arith}
 use borrow.Author.Needs.{needs}
-use Rattle.spelling.proofs.write_grid.Statement.{statement}
-use Rattle.spelling.proofs.write_grid.Tie as tie
-use Rattle.spelling.proofs.write_grid.Reads as reads
-use Rattle.spelling.proofs.write_grid.Lts as lts
+use Rattle.writing.proofs.write_grid.Statement.{statement}
+use Rattle.writing.proofs.write_grid.Tie as tie
+use Rattle.writing.proofs.write_grid.Reads as reads
+use Rattle.writing.proofs.write_grid.Lts as lts
 use Rattle.position.proofs.write_grid.Reads as write-grid-reads
-use Rattle.spelling.proofs.blank.Reads as blank-reads
+use Rattle.writing.proofs.blank.Reads as blank-reads
 
 -- src/lib.rt:243:32
 enum-told : tie.Need-enum-told

@@ -20,15 +20,15 @@ use Rattle.position.specs.Grid.{gridOf}
 use Rattle.position.proofs.Back.{angle-back, grid-back}
 use Rattle.text.specs.Texts.{textEnd, textOf, leadingBlank, textIn}
 use Rattle.text.proofs.Back.{PutText, text-back}
 use Rattle.spelling.specs.declared.Value.{Value}
 use Rattle.spelling.specs.declared.Value.the-variants.{Absent, Whole, Decimal, Angle, Date, Text}
 use Rattle.spelling.specs.declared.Reading.{Reading}
 use Rattle.spelling.specs.declared.Reading.the-variants.{Held}
 use Rattle.spelling.specs.declared.Spelling.{Spelling}
 use Rattle.spelling.specs.declared.Spelling.the-variants as spelled
 use Rattle.spelling.specs.Reading.{textReading, wholeReading, decimalReading, dateReading, angleReading, readingOf, isText, textRead}
-use Rattle.spelling.specs.Writing.{blanked, noValueIn, wholeIn, unitsIn, dayIn, arcIn, gridEntryIn, entryOf, textEntryOf}
+use Rattle.writing.specs.Writing.{blanked, noValueIn, wholeIn, unitsIn, dayIn, arcIn, gridEntryIn, entryOf, textEntryOf}
 use Rattle.spelling.proofs.Absence.{blank-read}
 
 -- what t says is v, and t is w columns wide
 abbrev pub ReadsBack : (List ℕ → Reading) → ℕ → Value → List ℕ → Type 0

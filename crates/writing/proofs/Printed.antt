@@ -28,13 +28,13 @@ use Rattle.position.specs.Axes.{boundOf, letterOf}
 use Rattle.position.specs.Angles.{figuresIn, angleIn}
 use Rattle.position.specs.Grid.{lettered, gridIn}
 use Rattle.text.specs.Texts.{printable, wellFormed, textIn}
 use Rattle.spelling.specs.declared.Value.{Value}
 use Rattle.spelling.specs.declared.Value.the-variants.{Absent, Whole, Decimal, Angle, Date, Text}
 use Rattle.spelling.specs.declared.Spelling.{Spelling}
 use Rattle.spelling.specs.declared.Spelling.the-variants as spelling
-use Rattle.spelling.specs.Writing.{blanked, noValueIn, wholeIn, unitsIn, dayIn, arcIn, gridEntryIn, entryOf, textEntryOf}
+use Rattle.writing.specs.Writing.{blanked, noValueIn, wholeIn, unitsIn, dayIn, arcIn, gridEntryIn, entryOf, textEntryOf}
 use Rattle.spelling.proofs.Absence.{zero-one}
-use Rattle.spelling.proofs.Back.{never, room-is}
+use Rattle.writing.proofs.Back.{never, room-is}
 
 -- one byte, and bytes behind bytes
 one : (b : ℕ) (s : List ℕ) → 32 ≤ b → b ≤ 126 → printable s ≡ true → printable (b ∷ s) ≡ true

@@ -18,15 +18,15 @@ use Rattle.date.specs.Calendar.{isLeap, isShort, daysIn, isDate}
 use Rattle.date.specs.Dates.{datedOf, dateOf, dateIn}
 use Rattle.position.specs.Axes.{boundOf, letterOf}
 use Rattle.position.specs.Angles.{paddedOf, partsOf, isSpelled, angledOf, angleOf, angleIn}
 use Rattle.spelling.specs.declared.Value.{Value}
 use Rattle.spelling.specs.declared.Value.the-variants as value
 use Rattle.spelling.specs.declared.Reading.{Reading}
 use Rattle.spelling.specs.declared.Reading.the-variants.{Held, Malformed, OutOfRange}
 use Rattle.spelling.specs.declared.Spelling.{Spelling}
 use Rattle.spelling.specs.declared.Spelling.the-variants.{Decimal, Date, Latitude, Longitude}
 use Rattle.spelling.specs.Reading.{readingOf}
 use Rattle.spelling.specs.Reading.{decimalReading, angleReading, dateReading}
-use Rattle.spelling.specs.Writing.{rewrittenOf, againIn, entryOf, unitsIn, dayIn, arcIn}
+use Rattle.writing.specs.Writing.{rewrittenOf, againIn, entryOf, unitsIn, dayIn, arcIn}
 
 abbrev pub bytes : String → List ℕ
 bytes ε = []

@@ -1,0 +1,5 @@
+pub mod Ways
+pub mod Back
+pub mod Agreed
+pub mod Edge
+pub mod Printed
