@@ -1,5 +1,4 @@
 pub mod Examples
-pub mod Laying
 pub mod Leftmost
 pub mod NewCards
 pub mod Verdicts

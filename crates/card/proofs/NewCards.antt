@@ -10,9 +10,10 @@ use Rattle.lists.proofs.Comparing.{equal-alike}
 use Rattle.layout.specs.declared.Code.{Code}
 use Rattle.layout.specs.declared.Code.the-variants as code
 use Rattle.layout.specs.Layouts.{codeOf, labelOf}
-use Rattle.card.specs.Opening.{labelled, newCard, cardWith, openedCard}
+use Rattle.opening.specs.Opening.{labelled, newCard, cardWith, openedCard}
 use Rattle.card.specs.Judging.{labelStands}
-use Rattle.card.proofs.Laying.{label-fits, labelled-length, card-coded, read-length}
+use Rattle.opening.proofs.Laying.{labelled-length, card-coded, read-length}
+use Rattle.layout.proofs.Labels.{label-fits}
 
 module _ (t l : List ℕ) (five : length t ≡ 5) where
   pub new-length : length l ≤ 75 → length (newCard t l) ≡ 80

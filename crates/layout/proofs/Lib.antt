@@ -9,3 +9,4 @@ pub mod Numbers
 pub mod Sets
 pub mod Apart
 pub mod Examples
+pub mod Labels

@@ -8,7 +8,7 @@ use Rattle.layout.proofs.Columns.{inOrder}
 use Rattle.layout.specs.Layouts.{fieldsOf}
 use Rattle.card.specs.Judging.{columnOffence, verdictFrom}
 use Rattle.card.proofs.Walked.{in-order, never-nothing, stands, onward, walks-on, halts, end-fine, end-filled}
-use Rattle.card.proofs.Laying.{label-fits}
+use Rattle.layout.proofs.Labels.{label-fits}
 use native.Mathlib.Omega.{arith}
 use borrow.Author.Needs.{needs}
 use Rattle.card.proofs.judge_columns.Statement.{statement}

@@ -3,7 +3,7 @@ use Prim.Native.Nat.{_+_}
 use denote.Ref.{now}
 use mathlib.Core.Path.{sym, _∙_, ap}
 use borrow.Author.Tests.{not-true, not-false}
-use Rattle.card.proofs.Laying.{label-fits}
+use Rattle.layout.proofs.Labels.{label-fits}
 use Rattle.card.proofs.Ways.{label-wrong, label-right}
 use native.Mathlib.Omega.{arith}
 use borrow.Author.Needs.{needs}

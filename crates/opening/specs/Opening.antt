@@ -8,8 +8,8 @@ use Rattle.layout.specs.declared.Code.{Code}
 use Rattle.layout.specs.declared.Code.the-variants as code
 use Rattle.layout.specs.Layouts.{codeOf, labelOf}
 use Rattle.seeking.specs.Card.{refusal}
-use Rattle.card.specs.declared.Opened.{Opened}
-use Rattle.card.specs.declared.Opened.the-variants.{Done, Refused}
+use Rattle.opening.specs.declared.Opened.{Opened}
+use Rattle.opening.specs.declared.Opened.the-variants.{Done, Refused}
 
 -- a label and then blanks, in so many columns
 unfoldable pub labelled : List ℕ → ℕ → List ℕ

@@ -6,12 +6,12 @@ use lib.ListN.{length, take, drop, set, length-set, drop-of-length-le}
 use lib.Seq.{take-all}
 use denote.Ref.{now}
 use Rattle.layout.specs.Layouts.{labelOf}
-use Rattle.card.specs.Opening.{labelled}
-use Rattle.card.proofs.Laying.{laid-on, labelled-length}
+use Rattle.opening.specs.Opening.{labelled}
+use Rattle.opening.proofs.Laying.{laid-on, labelled-length}
 use native.Mathlib.Omega.{arith}
 use borrow.Author.Needs.{needs}
-use Rattle.card.proofs.lay_label.Statement.{statement}
-use Rattle.card.proofs.lay_label.Tie as tie
+use Rattle.opening.proofs.lay_label.Statement.{statement}
+use Rattle.opening.proofs.lay_label.Tie as tie
 
 abbrev Inv-loop : tie.InvT-loop
 Inv-loop columns₀ layout i₀ columns i = (i ≤ length columns₀) × (length columns ≡ length columns₀) × (columns ≡ take i (labelled (labelOf layout) (length columns₀)) ++ drop i columns₀)

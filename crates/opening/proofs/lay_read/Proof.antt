@@ -2,11 +2,12 @@
 use denote.Ref.{now}
 use Rattle.layout.specs.Layouts.{labelOf}
 use Rattle.digits.proofs.Parts.{rest-length}
-use Rattle.card.proofs.Laying.{laid-behind, label-fits}
+use Rattle.opening.proofs.Laying.{laid-behind}
+use Rattle.layout.proofs.Labels.{label-fits}
 use native.Mathlib.Omega.{arith}
 use borrow.Author.Needs.{needs}
-use Rattle.card.proofs.lay_read.Statement.{statement}
-use Rattle.card.proofs.lay_read.Tie as tie
+use Rattle.opening.proofs.lay_read.Statement.{statement}
+use Rattle.opening.proofs.lay_read.Tie as tie
 
 lay-code-requires : tie.Need-lay-code-requires
 lay-code-requires c κs = search needs

@@ -1,12 +1,12 @@
 -- `card::open` meets its contract.
 use denote.Ref.{now}
 use mathlib.Core.Path.{sym, _∙_}
-use Rattle.card.specs.Opening.{codeAnswer, cardWith}
-use Rattle.card.proofs.Laying.{open-none, open-odd, kept-odd, open-coded, card-coded, passed-length, read-length}
+use Rattle.opening.specs.Opening.{codeAnswer, cardWith}
+use Rattle.opening.proofs.Laying.{open-none, open-odd, kept-odd, open-coded, card-coded, passed-length, read-length}
 use native.Mathlib.Omega.{arith}
 use borrow.Author.Needs.{needs}
-use Rattle.card.proofs.open.Statement.{statement}
-use Rattle.card.proofs.open.Tie as tie
+use Rattle.opening.proofs.open.Statement.{statement}
+use Rattle.opening.proofs.open.Tie as tie
 
 refused-requires : tie.Need-refused-requires
 refused-requires c κs = search needs

@@ -2,47 +2,23 @@
 use Prim.Native.Nat.{ℕ, zero, suc, _+_, _-_, _≤_, _<_}
 use native.Mathlib.Omega.{arith}
 use native.Mathlib.Nat.{sub-zero}
-use native.Mathlib.Decide.{decLt, ℕ-discrete}
+use native.Mathlib.Decide.{ℕ-discrete}
 use mathlib.Core.Path.{_≡_, refl, sym, ap, ap₂, _∙_}
 use mathlib.Core.List.{List, [], _∷_, _++_}
-use mathlib.Core.Bool.{Bool, true, false, cond, not}
 use lib.ListN.{length, getD, take, drop, set, replicate, length-append, length-replicate, length-drop}
 use lib.Seq.{take-append-seam}
-use lib.Dec.{T, eqb, leb, leb→le}
-use borrow.Author.Tests.{eq-eqb, ne-eqb}
+use borrow.Author.Tests.{ne-eqb}
 use borrow.Rule.Slice.PartMut.{putMid}
 use Rattle.digits.proofs.Parts.{put-rest, rest-length}
 use Rattle.text.proofs.Ends.{copied}
 use Rattle.layout.specs.declared.Code.{Code}
 use Rattle.layout.specs.declared.Code.the-variants as code
-use Rattle.layout.specs.Shape.{Layout}
-use Rattle.layout.specs.Table.{layouts}
-use Rattle.layout.specs.Layouts.{codeOf, labelOf, layoutAt}
-use Rattle.layout.specs.Packed.{layoutCount}
-use Rattle.layout.proofs.Every.{every}
-use Rattle.layout.proofs.Places.{no-label}
-use Rattle.layout.proofs.Columns.{of-layout}
+use Rattle.layout.specs.Layouts.{codeOf}
 use Rattle.layout.proofs.Walk.{wrong-length}
 use Rattle.seeking.specs.Card.{refusal}
 use Rattle.spelling.proofs.Absence.{zero-one}
-use Rattle.card.specs.declared.Opened.{Opened}
-use Rattle.card.specs.declared.Opened.the-variants.{Done, Refused}
-use Rattle.card.specs.Opening.{labelled, newCard, codeAnswer, openedOf, cardWith, openedCard}
-
--- every label has room behind the code
-abbrev short : Layout → Bool
-short l = leb (length (l .label)) 75
-
-all-short : T (every (λ (i : ℕ). short) 0 layouts)
-unfolding layouts
-all-short = tt
-
-pub label-fits : (k : ℕ) → length (labelOf k) ≤ 75
-unfolding labelOf
-label-fits k = elim (decLt k layoutCount) [
-  | yes h ↦ leb→le (length (layoutAt k .label)) 75 (of-layout short all-short k h)
-  | no h ↦ omega (arith, no-label k (omega arith))
-]
+use Rattle.opening.specs.declared.Opened.the-variants.{Refused}
+use Rattle.opening.specs.Opening.{labelled, newCard, codeAnswer, openedOf, cardWith, openedCard}
 
 -- a label with blanks behind it, byte by byte
 blank-at : (n i : ℕ) → i < n → _≡_ {A = ℕ} (getD (replicate n 32) i 0) 32

@@ -2,10 +2,10 @@
 use denote.Ref.{now}
 use mathlib.Core.List.{[]}
 use mathlib.Core.Path.{sym, _∙_}
-use Rattle.card.proofs.Laying.{laid-behind, no-label-behind}
+use Rattle.opening.proofs.Laying.{laid-behind, no-label-behind}
 use borrow.Author.Needs.{needs}
-use Rattle.card.proofs.lay_passed.Statement.{statement}
-use Rattle.card.proofs.lay_passed.Tie as tie
+use Rattle.opening.proofs.lay_passed.Statement.{statement}
+use Rattle.opening.proofs.lay_passed.Tie as tie
 
 lay-code-requires : tie.Need-lay-code-requires
 lay-code-requires c κs = search needs

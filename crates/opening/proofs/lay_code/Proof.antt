@@ -8,8 +8,8 @@ use denote.Ref.{now}
 use Rattle.text.proofs.Ends.{copied}
 use native.Mathlib.Omega.{arith}
 use borrow.Author.Needs.{needs}
-use Rattle.card.proofs.lay_code.Statement.{statement}
-use Rattle.card.proofs.lay_code.Tie as tie
+use Rattle.opening.proofs.lay_code.Statement.{statement}
+use Rattle.opening.proofs.lay_code.Tie as tie
 
 abbrev Inv-loop : tie.InvT-loop
 Inv-loop card₀ code i₀ card i = (i ≤ length code) × (length card ≡ length card₀) × (card ≡ take i code ++ drop i card₀)
