@@ -18,7 +18,8 @@ use Rattle.position.specs.Grid.{presentOf, gridOf}
 use Rattle.spelling.specs.Reading.{textReading, wholeReading, decimalReading, dateReading, angleReading, readingOf}
 use Rattle.layout.specs.Shape.{bytes}
 use Rattle.layout.specs.Table.{layouts, passedCodes}
-use Rattle.layout.specs.Layouts.{byteFits, fitsAt, fits, codes, placeIn, codeAt, codeOf, layoutAt, fieldsOf, labelOf, inRange}
+use Rattle.codes.specs.Codes.{byteFits, fitsAt, fits, codes, placeIn, codeAt, codeOf}
+use Rattle.layout.specs.Layouts.{layoutAt, fieldsOf, labelOf, inRange}
 use Rattle.seeking.specs.Card.{firstBad}
 use Rattle.judging.specs.Fields.{columnsOf, isBlank, spellingOf, anySecond, neededOn, valueOf, heldOf, judgedOf}
 use Rattle.card.specs.declared.Form.{Form}

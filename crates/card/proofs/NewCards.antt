@@ -7,9 +7,10 @@ use mathlib.Core.Bool.{Bool, true}
 use lib.ListN.{length, take, drop, length-append, replicate}
 use lib.Seq.{take-append-seam, drop-append-seam}
 use Rattle.lists.proofs.Comparing.{equal-alike}
-use Rattle.layout.specs.declared.Code.{Code}
-use Rattle.layout.specs.declared.Code.the-variants as code
-use Rattle.layout.specs.Layouts.{codeOf, labelOf}
+use Rattle.codes.specs.declared.Code.{Code}
+use Rattle.codes.specs.declared.Code.the-variants as code
+use Rattle.codes.specs.Codes.{codeOf}
+use Rattle.layout.specs.Layouts.{labelOf}
 use Rattle.opening.specs.Opening.{labelled, newCard, cardWith, openedCard}
 use Rattle.card.specs.Judging.{labelStands}
 use Rattle.opening.proofs.Laying.{labelled-length, card-coded, read-length}

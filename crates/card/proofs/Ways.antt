@@ -11,9 +11,10 @@ use borrow.Author.Tests.{eq-eqb, ne-eqb, le-leb, lt-leb, lt-ltb, le-ltb}
 use Rattle.lists.specs.Count.{firstFrom}
 use Rattle.lists.specs.Parts.{alike}
 use Rattle.lists.proofs.Comparing.{equal-alike, unequal-alike}
-use Rattle.layout.specs.declared.Code.{Code}
+use Rattle.codes.specs.declared.Code.{Code}
 use Rattle.layout.specs.declared.Field.{Field}
-use Rattle.layout.specs.Layouts.{codeOf, labelOf, fieldsOf}
+use Rattle.codes.specs.Codes.{codeOf}
+use Rattle.layout.specs.Layouts.{labelOf, fieldsOf}
 use Rattle.judging.specs.declared.Judged.{Judged}
 use Rattle.seeking.specs.Card.{firstBad}
 use Rattle.judging.specs.Fields.{judgedOf}

@@ -6,12 +6,13 @@ use lib.ListN.{length, getD, take, drop}
 use lib.Dec.{eqb, leb, ltb}
 use Rattle.lists.specs.Count.{firstFrom}
 use Rattle.lists.specs.Parts.{alike}
-use Rattle.layout.specs.declared.Code.{Code}
-use Rattle.layout.specs.declared.Code.the-variants as code
+use Rattle.codes.specs.declared.Code.{Code}
+use Rattle.codes.specs.declared.Code.the-variants as code
 use Rattle.layout.specs.declared.Kind.{Kind}
 use Rattle.layout.specs.declared.Kind.the-variants as kind
 use Rattle.layout.specs.declared.Field.{Field}
-use Rattle.layout.specs.Layouts.{codeOf, fieldsOf, labelOf}
+use Rattle.codes.specs.Codes.{codeOf}
+use Rattle.layout.specs.Layouts.{fieldsOf, labelOf}
 use Rattle.judging.specs.declared.Judged.{Judged}
 use Rattle.judging.specs.declared.Judged.the-variants as judged
 use Rattle.seeking.specs.Card.{firstBad}

@@ -1,6 +1,6 @@
 // One card judged by itself: its first offence and where it stands.
+use codes::Code;
 use judging::Judged;
-use layout::Code;
 use layout::Field;
 use layout::Found;
 use layout::Kind;
@@ -175,7 +175,7 @@ pub fn judge_card(card: &[u8], form: Form) -> Verdict
     if bad < CARD {
         return Verdict::Offence(4, bad + 1);
     }
-    let code = layout::code_of(&card[..CODE]);
+    let code = codes::code_of(&card[..CODE]);
     match code {
         Code::Unknown => Verdict::Offence(5, 1),
         Code::Passed => Verdict::Fine,

@@ -14,53 +14,10 @@ use Rattle.layout.specs.declared.Field.{Field}
 use Rattle.layout.specs.Shape.{Layout}
 use Rattle.layout.specs.Table.{layouts, passedCodes}
 use Rattle.layout.specs.declared.Found.the-variants.{Is, Nothing}
-use Rattle.layout.specs.Layouts.{byteFits, fitsAt, codes, layoutAt, fieldsOf, labelOf, fieldOf, noField}
-use Rattle.layout.specs.Packed.{
-  layoutCount,
-  patternCount,
-  fieldCount,
-  labelCount,
-  kindOf,
-  rangeOf,
-  unpack,
-  pack,
-  fieldsIn,
-  labelIn,
-  allFields,
-  allLabels,
-  allCodes,
-  fieldStart,
-  labelStart,
-  startsFrom,
-  fieldTable,
-}
+use Rattle.layout.specs.Layouts.{layoutAt, fieldsOf, labelOf, fieldOf, noField}
+use Rattle.layout.specs.Packed.{layoutCount, fieldCount, labelCount, kindOf, rangeOf, unpack, pack, fieldsIn, labelIn, allFields, allLabels, fieldStart, labelStart, startsFrom, fieldTable}
 use Rattle.layout.proofs.Every.{every, at, and-left, and-right}
 use Rattle.layout.proofs.Joined.{grows, stands, within}
-
--- the patterns
-
-abbrev placed : ℕ → ℕ → Bool
-placed i b = eqb b (getD (getD codes (i / 5) []) (i % 5) 0)
-
-all-placed : T (every placed 0 allCodes)
-unfolding allCodes codes layouts passedCodes
-all-placed = tt
-
-codes-end : length allCodes ≡ 5 * patternCount
-unfolding allCodes codes layouts passedCodes
-codes-end = refl
-
-code-byte-at : (k j : ℕ) → k < patternCount → j < 5 → getD allCodes (5 * k + j) 0 ≡ getD (getD codes k []) j 0
-code-byte-at k j hk hj =
-    let q : (5 * k + j) / 5 ≡ k = omega arith in
-    let r : (5 * k + j) % 5 ≡ j = omega arith in
-    eqb→eq _ _ (at placed 0 allCodes all-placed (5 * k + j) (omega (arith, codes-end)))
-    ∙ ap (λ (x : ℕ). getD (getD codes x []) ((5 * k + j) % 5) 0) q
-    ∙ ap (λ (x : ℕ). getD (getD codes k []) x 0) r
-
-pub codes-count : length codes ≡ patternCount
-unfolding codes layouts passedCodes
-codes-count = refl
 
 -- the fields: what a number holds is the field that was packed into it
 
@@ -232,15 +189,6 @@ pub label-past : (k i : ℕ) → length (labelOf k) ≤ i → 32 ≡ getD (label
 label-past k i h = sym (List·getD-eq-default (labelOf k) 32 h)
 
 -- the same of a lent table that holds what the code's does
-
-pub codes-length : (t : List ℕ) → t ≡ allCodes → length t ≡ 5 * patternCount
-codes-length t e = ap length e ∙ codes-end
-
-pub fits-there : (t s : List ℕ) (k j : ℕ) → t ≡ allCodes → k < patternCount → j < 5
-    → byteFits (getD t (5 * k + j) 0) (getD s j 0) ≡ fitsAt (getD codes k []) s j
-unfolding fitsAt
-fits-there t s k j e hk hj =
-    ap (λ (b : ℕ). byteFits b (getD s j 0)) (ap (λ (l : List ℕ). getD l (5 * k + j) 0) e ∙ code-byte-at k j hk hj)
 
 pub table-length : (t : List ℕ) → t ≡ fieldTable → length t ≡ suc layoutCount + fieldCount
 table-length t e = ap length e ∙ table-count

@@ -11,14 +11,10 @@ use Rattle.layout.specs.declared.Range.the-variants.{Any, AtLeast, Betwe
 use Rattle.layout.specs.declared.Field.{Field}
 use Rattle.layout.specs.Shape.{Layout}
 use Rattle.layout.specs.Table.{layouts}
-use Rattle.layout.specs.Layouts.{codes}
 
--- how many lines the table has: layouts, patterns, fields, bytes of labels
+-- how many lines the table has: layouts, fields, bytes of labels
 abbrev pub layoutCount : ℕ
 layoutCount = 26
-
-abbrev pub patternCount : ℕ
-patternCount = 87
 
 abbrev pub fieldCount : ℕ
 fieldCount = 130
@@ -115,11 +111,3 @@ startsFrom (suc n) k = (fieldStart k + 1024 * labelStart k) ∷ startsFrom n (su
 -- the starts of the layouts and the end, and then every field as one number
 unfoldable pub fieldTable : List ℕ
 fieldTable = startsFrom (suc layoutCount) 0 ++ map pack allFields
-
--- all patterns, five bytes each
-abbrev pub flat : List (List ℕ) → List ℕ
-flat [] = []
-flat (p ∷ ps) = p ++ flat ps
-
-unfoldable pub allCodes : List ℕ
-allCodes = flat codes

@@ -1,21 +1,19 @@
-// The layout table: which codes are read or passed, their labels, their fields with columns and ranges.
+// The layout table: labels, fields with columns and ranges.
 ghost use mathlib.Core.Path.{_≡_};
 ghost use Prim.Native.Nat.{_≤_, _<_};
 ghost use lib.ListN.{length, getD};
 ghost use mathlib.Core.List.{[]};
-ghost use Rattle.layout.specs.Layouts.{byteFits, fitsAt, fits, codes, placeIn, codeOf, fieldsOf, labelOf, fieldOf, allows, isAny, inRange};
-ghost use Rattle.layout.specs.Packed.{layoutCount, patternCount, kindOf, rangeOf, unpack, allCodes, fieldTable, fieldStart, labelStart};
+ghost use Rattle.layout.specs.Layouts.{fieldsOf, labelOf, fieldOf, allows, isAny, inRange};
+ghost use Rattle.layout.specs.Packed.{layoutCount, kindOf, rangeOf, unpack, fieldTable, fieldStart, labelStart};
 
 mod rows;
 
-use rows::CODES;
 use rows::FIRST;
 use rows::LABEL;
 use rows::LABELS;
 use rows::LAST;
 use rows::LAYOUTS;
 use rows::NEEDED;
-use rows::PATTERNS;
 use rows::RANGE;
 use rows::SECOND;
 use rows::SIZE;
@@ -54,81 +52,6 @@ pub struct Field {
 pub enum Found {
     Is(Field),
     Nothing,
-}
-
-// A card's code: read by the layout with a number, passed, or unknown.
-pub enum Code {
-    Read(usize),
-    Passed,
-    Unknown,
-}
-
-fn byte_fits(pattern: u8, byte: u8) -> bool
-    ensures { λ r. ⌜ r ≡ byteFits pattern byte ⌝ }
-{
-    if pattern == b'@' {
-        return (b'1' <= byte) & (byte <= b'9');
-    }
-    if pattern == b'#' {
-        return (b'0' <= byte) & (byte <= b'9');
-    }
-    pattern == byte
-}
-
-// Whether a code's byte fits the byte of a pattern in the same place.
-fn fits_at(table: &[u8], number: usize, code: &[u8], place: usize) -> bool
-    requires { ⌜ now table ≡ allCodes ⌝ }
-    requires { ⌜ (number < patternCount) × (length (now code) ≡ 5) × (place < 5) ⌝ }
-    ensures { λ r. ⌜ r ≡ fitsAt (getD codes number []) (now (code .entry)) place ⌝ }
-{
-    byte_fits(table[5 * number + place], code[place])
-}
-
-// Whether a code fits a pattern. The third byte, which tells most codes apart, is looked at first.
-fn fits_pattern(table: &[u8], number: usize, code: &[u8]) -> bool
-    requires { ⌜ now table ≡ allCodes ⌝ }
-    requires { ⌜ (number < patternCount) × (length (now code) ≡ 5) ⌝ }
-    ensures { λ r. ⌜ r ≡ fits (getD codes number []) (now (code .entry)) ⌝ }
-{
-    if !fits_at(table, number, code, 2) {
-        return false;
-    }
-    let front = fits_at(table, number, code, 0) & fits_at(table, number, code, 1);
-    front & fits_at(table, number, code, 3) & fits_at(table, number, code, 4)
-}
-
-// The number of the first pattern that a code fits: one byte for most of the patterns before it.
-fn place_in(table: &[u8], code: &[u8]) -> usize
-    requires { ⌜ now table ≡ allCodes ⌝ }
-    requires { ⌜ length (now code) ≡ 5 ⌝ }
-    ensures { λ r. ⌜ r ≡ placeIn codes (now (code .entry)) ⌝ }
-{
-    let mut number = 0;
-    while number < PATTERNS {
-        if fits_pattern(table, number, code) {
-            return number;
-        }
-        number += 1;
-    }
-    number
-}
-
-// What some bytes are as a code: one walk, over the patterns of the layouts for a read code, over the passed ones too for
-// any other. Most patterns cost one byte; the patterns are written out once a call.
-pub fn code_of(code: &[u8]) -> Code
-    ensures { λ r. ⌜ r ≡ codeOf (now (code .entry)) ⌝ }
-{
-    if code.len() != 5 {
-        return Code::Unknown;
-    }
-    let number = place_in(&CODES, code);
-    if number < LAYOUTS {
-        return Code::Read(number);
-    }
-    if number < PATTERNS {
-        return Code::Passed;
-    }
-    Code::Unknown
 }
 
 // The table that the functions below whose names end in `_by` are lent: a constant array is written out anew wherever

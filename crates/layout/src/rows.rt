@@ -1,20 +1,14 @@
-// The layout table as the code holds it: one number a field, codes and labels as bytes.
-// A new field is a line of TABLE, one more in the next start below and in FIELDS. A new passed code is five bytes of CODES
-// and one more in PATTERNS. The check compares all of it with the table of the specification.
+// The layout table as the code holds it: one number a field, labels as bytes.
+// A new field is a line of TABLE, one more in the next start below and in FIELDS.
+// The check compares all of it with the table of the specification.
 
-// How many layouts there are, and how many code patterns: those of the layouts and then the passed ones.
+// How many layouts there are.
 pub const LAYOUTS: usize = 26;
-
-pub const PATTERNS: usize = 87;
 
 // How many fields they have together, and how many numbers the table of the starts and the fields.
 const FIELDS: usize = 130;
 
 pub const SIZE: usize = LAYOUTS + 1 + FIELDS;
-
-// The patterns, five bytes each: @ is 1 to 9, # is 0 to 9.
-pub const CODES: [u8; 5 * PATTERNS] =
-    *b"H0000H0001H0002H0003H0004H0005H0006H0007H00#8H00#9C0001C0002H0100H0101H011@H0120H17@0H17@1H21@0H21@1H21@2H21@3H22@0H2300H23@0H2301H0130H0140H0150H0160H0170H0180H0181H0190H0199H0200H0210H0220H0230H0240H10@0H11@0H12@0H12@1H13@0H14@#H1500H1501H16@0H16@1H16@2H23@1H24@0H24@1H25@0H31@0H31@1H32@0H32@1H32@2H33@0H34@0H34@1H41@0H5000H51@0H52##H5306H5307H54##H5500H56@0H600#H610#H620#H6300H6301H631#H632#H6330H65##H66##H67@0H7000H7010H7020H7021";
 
 // The labels of the layouts, one after the other.
 pub const LABELS: [u8; 161] =

@@ -11,10 +11,10 @@ use borrow.Author.Tests.{ne-eqb}
 use borrow.Rule.Slice.PartMut.{putMid}
 use Rattle.digits.proofs.Parts.{put-rest, rest-length}
 use Rattle.text.proofs.Ends.{copied}
-use Rattle.layout.specs.declared.Code.{Code}
-use Rattle.layout.specs.declared.Code.the-variants as code
-use Rattle.layout.specs.Layouts.{codeOf}
-use Rattle.layout.proofs.Walk.{wrong-length}
+use Rattle.codes.specs.declared.Code.{Code}
+use Rattle.codes.specs.declared.Code.the-variants as code
+use Rattle.codes.specs.Codes.{codeOf}
+use Rattle.codes.proofs.Walk.{wrong-length}
 use Rattle.seeking.specs.Card.{refusal}
 use Rattle.spelling.proofs.Absence.{zero-one}
 use Rattle.opening.specs.declared.Opened.the-variants.{Refused}

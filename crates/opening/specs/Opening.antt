@@ -4,9 +4,10 @@ use mathlib.Core.List.{List, [], _++_}
 use mathlib.Core.Bool.{Bool, true, false, cond, not}
 use lib.ListN.{length, replicate}
 use lib.Dec.{eqb}
-use Rattle.layout.specs.declared.Code.{Code}
-use Rattle.layout.specs.declared.Code.the-variants as code
-use Rattle.layout.specs.Layouts.{codeOf, labelOf}
+use Rattle.codes.specs.declared.Code.{Code}
+use Rattle.codes.specs.declared.Code.the-variants as code
+use Rattle.codes.specs.Codes.{codeOf}
+use Rattle.layout.specs.Layouts.{labelOf}
 use Rattle.seeking.specs.Card.{refusal}
 use Rattle.opening.specs.declared.Opened.{Opened}
 use Rattle.opening.specs.declared.Opened.the-variants.{Done, Refused}

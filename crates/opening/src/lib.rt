@@ -1,5 +1,5 @@
 // A new card: its code, its label and blanks.
-use layout::Code;
+use codes::Code;
 use seeking::Refusal;
 ghost use mathlib.Core.Path.{_≡_};
 ghost use mathlib.Core.List.{_++_, []};
@@ -83,7 +83,7 @@ pub fn open(card: &mut [u8], code: &[u8]) -> Opened
     if card.len() != CARD {
         return refused(2, 0, 0);
     }
-    let known = layout::code_of(code);
+    let known = codes::code_of(code);
     match known {
         Code::Unknown => refused(5, 1, 1),
         Code::Passed => {

@@ -7,12 +7,13 @@ use mathlib.Core.Bool.{true≢false, Bool, true, false, cond, not}
 use lib.ListN.{length, getD, take}
 use lib.Dec.{eqb, ltb}
 use borrow.Author.Tests.{ne-eqb, le-leb, lt-leb, lt-ltb, le-ltb, ltb-false, eqb-true}
-use Rattle.layout.specs.declared.Code.{Code}
-use Rattle.layout.specs.declared.Code.the-variants as code
+use Rattle.codes.specs.declared.Code.{Code}
+use Rattle.codes.specs.declared.Code.the-variants as code
 use Rattle.layout.specs.declared.Field.{Field}
 use Rattle.layout.specs.declared.Found.{Found}
 use Rattle.layout.specs.declared.Found.the-variants as found
-use Rattle.layout.specs.Layouts.{codeOf, fieldOf}
+use Rattle.codes.specs.Codes.{codeOf}
+use Rattle.layout.specs.Layouts.{fieldOf}
 use Rattle.seeking.specs.declared.Sought.the-variants.{Is, Refused}
 use Rattle.seeking.specs.Card.{refusal, badAt, firstBad, underForm, coded, soughtOf}
 

@@ -5,12 +5,13 @@ use mathlib.Core.Bool.{Bool, true, false, cond, _&&_, not}
 use lib.ListN.{length, getD, take}
 use lib.Dec.{eqb, leb, ltb}
 use Rattle.lists.specs.Count.{first}
-use Rattle.layout.specs.declared.Code.{Code}
-use Rattle.layout.specs.declared.Code.the-variants as code
+use Rattle.codes.specs.declared.Code.{Code}
+use Rattle.codes.specs.declared.Code.the-variants as code
 use Rattle.layout.specs.declared.Field.{Field}
 use Rattle.layout.specs.declared.Found.{Found}
 use Rattle.layout.specs.declared.Found.the-variants as found
-use Rattle.layout.specs.Layouts.{codeOf, fieldOf}
+use Rattle.codes.specs.Codes.{codeOf}
+use Rattle.layout.specs.Layouts.{fieldOf}
 use Rattle.seeking.specs.declared.Refusal.{Refusal}
 use Rattle.seeking.specs.declared.Sought.{Sought}
 use Rattle.seeking.specs.declared.Sought.the-variants.{Is, Refused}

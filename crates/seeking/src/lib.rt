@@ -1,5 +1,5 @@
 // A card's field found by its number: length, bytes and code of the card come first.
-use layout::Code;
+use codes::Code;
 use layout::Field;
 use layout::Found;
 ghost use mathlib.Core.Path.{_≡_};
@@ -82,7 +82,7 @@ pub fn seek(card: &[u8], number: usize, form: usize) -> Sought
     if bad < CARD {
         return refused(4, 1, bad + 1);
     }
-    let code = layout::code_of(&card[..CODE]);
+    let code = codes::code_of(&card[..CODE]);
     match code {
         Code::Unknown => refused(5, 1, 1),
         Code::Passed => refused(13, 0, 0),

@@ -12,7 +12,7 @@ use Rattle.seeking.proofs.seek.Lts as lts
 use Rattle.seeking.proofs.first_bad.Reads as first-bad-reads
 use Rattle.seeking.proofs.refused.Reads as refused-reads
 use Rattle.seeking.proofs.under_form.Reads as under-form-reads
-use Rattle.layout.proofs.code_of.Reads as code-of-reads
+use Rattle.codes.proofs.code_of.Reads as code-of-reads
 
 -- src/lib.rt:95:9
 refused-requires : tie.Need-refused-requires

@@ -9,12 +9,14 @@ use borrow.Author.Tests.{eq-eqb, ne-eqb, lt-ltb, le-ltb}
 use lib.Dec.{T, eqb, eqb→eq}
 use lib.ListN.{length, getD, drop, drop-of-length-le}
 use lib.Seq.{drop-cons}
-use Rattle.layout.specs.declared.Code.the-variants.{Read, Passed, Unknown}
+use Rattle.codes.specs.declared.Code.the-variants.{Read, Passed, Unknown}
 use Rattle.layout.specs.Table.{layouts, passedCodes}
-use Rattle.layout.specs.Layouts.{byteFits, fitsAt, fits, codes, placeIn, codeAt, codeOf}
-use Rattle.layout.specs.Packed.{layoutCount, patternCount}
+use Rattle.codes.specs.Codes.{byteFits, fitsAt, fits, codes, placeIn, codeAt, codeOf}
+use Rattle.layout.specs.Packed.{layoutCount}
+use Rattle.codes.specs.Codes.{patternCount}
 use Rattle.layout.proofs.Every.{every, at, and-left, and-right}
-use Rattle.layout.proofs.Places.{codes-count, layouts-count}
+use Rattle.codes.proofs.Places.{codes-count}
+use Rattle.layout.proofs.Places.{layouts-count}
 
 -- the walk
 

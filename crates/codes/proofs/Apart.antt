@@ -9,14 +9,17 @@ use borrow.Author.Tests.{eqb-true, leb-true, ltb-true}
 use lib.Dec.{T, eqb, eqb→eq, leb, ltb, ltb→lt}
 use lib.ListN.{length, getD, length-map, List·getD-append, List·getD-map}
 use lib.Seq.{getD-append-add}
-use Rattle.layout.specs.declared.Code.the-variants.{Read, Passed, Unknown}
+use Rattle.codes.specs.declared.Code.the-variants.{Read, Passed, Unknown}
 use Rattle.layout.specs.Shape.{Layout}
 use Rattle.layout.specs.Table.{layouts, passedCodes}
-use Rattle.layout.specs.Layouts.{byteFits, fitsAt, fits, codes, placeIn, codeOf, layoutAt}
-use Rattle.layout.specs.Packed.{layoutCount, patternCount}
+use Rattle.codes.specs.Codes.{byteFits, fitsAt, fits, codes, placeIn, codeOf}
+use Rattle.layout.specs.Layouts.{layoutAt}
+use Rattle.layout.specs.Packed.{layoutCount}
+use Rattle.codes.specs.Codes.{patternCount}
 use Rattle.layout.proofs.Every.{every, at, and-left, and-right}
-use Rattle.layout.proofs.Places.{codes-count, layouts-count}
-use Rattle.layout.proofs.Walk.{is-read, is-passed, is-unknown}
+use Rattle.codes.proofs.Places.{codes-count}
+use Rattle.layout.proofs.Places.{layouts-count}
+use Rattle.codes.proofs.Walk.{is-read, is-passed, is-unknown}
 
 -- every pattern has five bytes
 abbrev five : ℕ → List ℕ → Bool

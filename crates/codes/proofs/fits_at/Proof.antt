@@ -1,10 +1,10 @@
 -- `layout::fits_at` meets its contract: the byte read is that of the pattern with the number.
 use mathlib.Core.Path.{_∙_}
 use native.Mathlib.Omega.{arith}
-use Rattle.layout.proofs.Places.{codes-length, fits-there}
+use Rattle.codes.proofs.Places.{codes-length, fits-there}
 use borrow.Author.Needs.{needs}
-use Rattle.layout.proofs.fits_at.Statement.{statement}
-use Rattle.layout.proofs.fits_at.Tie as tie
+use Rattle.codes.proofs.fits_at.Statement.{statement}
+use Rattle.codes.proofs.fits_at.Tie as tie
 
 mul-byte-fits : tie.Need-mul-byte-fits
 mul-byte-fits c = search needs

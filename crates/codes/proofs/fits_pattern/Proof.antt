@@ -1,10 +1,10 @@
 -- `layout::fits_pattern` meets its contract: the third byte decides first, then the other four.
 use mathlib.Core.Path.{sym, _∙_}
 use borrow.Author.Tests.{not-true, not-false}
-use Rattle.layout.proofs.Walk.{differs, agrees}
+use Rattle.codes.proofs.Walk.{differs, agrees}
 use borrow.Author.Needs.{needs}
-use Rattle.layout.proofs.fits_pattern.Statement.{statement}
-use Rattle.layout.proofs.fits_pattern.Tie as tie
+use Rattle.codes.proofs.fits_pattern.Statement.{statement}
+use Rattle.codes.proofs.fits_pattern.Tie as tie
 
 fits-at-requires : tie.Need-fits-at-requires
 fits-at-requires c κs = search needs

@@ -3,11 +3,11 @@ use mathlib.Core.Path.{_≡_, refl}
 use mathlib.Core.List.{List, [], _∷_, map}
 use Prim.Native.Nat.{ℕ}
 use Prim.Native.String.{String}
-use Rattle.layout.specs.declared.Code.{Code}
-use Rattle.layout.specs.declared.Code.the-variants.{Read, Passed, Unknown}
+use Rattle.codes.specs.declared.Code.{Code}
+use Rattle.codes.specs.declared.Code.the-variants.{Read, Passed, Unknown}
 use Rattle.layout.specs.Shape.{bytes}
 use Rattle.layout.specs.Table.{layouts, passedCodes}
-use Rattle.layout.specs.Layouts.{byteFits, fitsAt, fits, codes, placeIn, codeAt, codeOf}
+use Rattle.codes.specs.Codes.{byteFits, fitsAt, fits, codes, placeIn, codeAt, codeOf}
 
 abbrev kinds : List String → List Code
 kinds [] = []

@@ -1,8 +1,8 @@
 -- `layout::byte_fits` meets its contract: the wild card or the byte itself picks the test.
-use Rattle.layout.specs.Layouts.{byteFits}
+use Rattle.codes.specs.Codes.{byteFits}
 use borrow.Author.Tests.{ne-eqb}
-use Rattle.layout.proofs.byte_fits.Statement.{statement}
-use Rattle.layout.proofs.byte_fits.Tie as tie
+use Rattle.codes.proofs.byte_fits.Statement.{statement}
+use Rattle.codes.proofs.byte_fits.Tie as tie
 
 returns : tie.Need-returns
 unfolding byteFits

@@ -1,12 +1,12 @@
 -- `layout::code_of` meets its contract: the number of the pattern found tells what the code is; the patterns are the table's by one computed test.
 use mathlib.Core.Path.{refl}
 use Rattle.layout.specs.Table.{layouts, passedCodes}
-use Rattle.layout.specs.Layouts.{codes}
-use Rattle.layout.specs.Packed.{allCodes}
-use Rattle.layout.proofs.Walk.{is-read, is-passed, is-unknown, wrong-length}
+use Rattle.codes.specs.Codes.{codes}
+use Rattle.codes.specs.Codes.{allCodes}
+use Rattle.codes.proofs.Walk.{is-read, is-passed, is-unknown, wrong-length}
 use borrow.Author.Needs.{needs}
-use Rattle.layout.proofs.code_of.Statement.{statement}
-use Rattle.layout.proofs.code_of.Tie as tie
+use Rattle.codes.proofs.code_of.Statement.{statement}
+use Rattle.codes.proofs.code_of.Tie as tie
 
 returns : tie.Need-returns
 returns c = wrong-length _ (c .if1 .taken)

@@ -4,12 +4,12 @@ use Prim.Native.Nat.{_+_, _-_, _≤_}
 use native.Mathlib.Omega.{arith}
 use borrow.Author.Needs.{needs}
 use lib.ListN.{length, drop}
-use Rattle.layout.specs.Layouts.{codes, placeIn}
-use Rattle.layout.specs.Packed.{patternCount, allCodes}
-use Rattle.layout.proofs.Walk.{hit, on, over}
-use Rattle.layout.proofs.Places.{codes-count}
-use Rattle.layout.proofs.place_in.Statement.{statement}
-use Rattle.layout.proofs.place_in.Tie as tie
+use Rattle.codes.specs.Codes.{codes, placeIn}
+use Rattle.codes.specs.Codes.{patternCount, allCodes}
+use Rattle.codes.proofs.Walk.{hit, on, over}
+use Rattle.codes.proofs.Places.{codes-count}
+use Rattle.codes.proofs.place_in.Statement.{statement}
+use Rattle.codes.proofs.place_in.Tie as tie
 
 abbrev Inv-loop : tie.InvT-loop
 Inv-loop table code number₀ number = (number ≤ patternCount) × (table ≡ allCodes) × (length code ≡ 5) × (placeIn codes code ≡ number + placeIn (drop number codes) code)

@@ -1,0 +1,4 @@
+pub mod Places
+pub mod Walk
+pub mod Apart
+pub mod Examples
