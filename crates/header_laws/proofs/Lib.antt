@@ -1,0 +1,6 @@
+-- Laws of the header's refusal.
+pub mod Rows
+pub mod Exactly
+pub mod Opens
+pub mod Moved
+pub mod Examples

@@ -1,0 +1,235 @@
+-- Cards behind the opening block that change places: each keeps its form and its verdict, and the header is accepted as before.
+use Prim.Native.Nat.{ℕ, zero, suc, _+_, _/_, _%_, _≤_, _<_}
+use native.Mathlib.Decide.{ℕ-discrete, decLt}
+use native.Mathlib.Omega.{arith}
+use mathlib.Core.Path.{_≡_, refl, sym, ap, _∙_}
+use mathlib.Core.Logic.{_↔_}
+use mathlib.Core.List.{List}
+use mathlib.Core.Bool.{Bool, true, false, cond, _&&_}
+use lib.Dec.{eqb, ltb}
+use lib.ListN.{length, take}
+use Rattle.codes.specs.Codes.{codeOf}
+use Rattle.seeking.specs.Card.{firstBad}
+use borrow.Author.Tests.{eq-eqb, ne-eqb, lt-ltb, le-ltb}
+use Rattle.lists.specs.Count.{count, first, Rearranged}
+use Rattle.lists.proofs.Counting.{count-none, count-one}
+use Rattle.lists.proofs.Moving.{count-moved}
+use Rattle.lists.proofs.Finding.{first-below, first-passes}
+use Rattle.card.specs.declared.Form.{Form}
+use Rattle.card.specs.declared.Verdict.the-variants.{Fine, Offence}
+use Rattle.forms.specs.Cards.{cardAt, cardsIn, byteIn, layoutOf, waypointCard}
+use Rattle.forms.specs.Forms.{formSaid, onlyForm, statesLine, statesGrid, lineForm, gridForm, formOf}
+use Rattle.header.specs.declared.Checked.the-variants.{Accepted}
+use Rattle.header.specs.Opening.{openingCards, mayFollow, inPlace, layoutBefore, standsAt}
+use Rattle.header.specs.Refusing.{isUnknown, readable, placedVerdict, endVerdict, verdictAt, refusalOf}
+use Rattle.header_laws.proofs.Exactly.{Sized, Fine-throughout, accepted-exactly}
+use Rattle.header_laws.proofs.Opens.{Opens, layoutsIn, opens-exactly}
+
+-- where one passes, the first that does is below n
+there : (p : ℕ → Bool) (n : ℕ) → count p n ≡ 1 → first p n < n
+there p n o = elim (decLt (first p n) n) [
+  | yes l ↦ l
+  | no l ↦ absurd (omega (arith, count-none p n (λ i k. first-below p n i (omega arith))))
+]
+
+-- the form that the only card says, when the cards change places
+only-moved : {n : ℕ} (π : Rearranged n) (p q : ℕ → Bool) (a b : ℕ → ℕ)
+    → ((i : ℕ) → i < n → q (π .to i) ≡ p i) → ((i : ℕ) → i < n → b (π .to i) ≡ a i) → onlyForm q b n ≡ onlyForm p a n
+unfolding onlyForm
+only-moved {n} π p q a b f g = rw (count-moved π p q f) (elim (ℕ-discrete (count p n) 1) [
+  | yes o ↦ rw (eq-eqb (count p n) 1 o) (ap formSaid (ap b (same o) ∙ g (first p n) (there p n o)))
+  | no o ↦ rw (ne-eqb (count p n) 1 o)
+])
+  where
+    same : count p n ≡ 1 → first q n ≡ π .to (first p n)
+    same o =
+        let l : first p n < n = there p n o in
+        let e : count q n ≡ 1 = count-moved π p q f ∙ o in
+        let m : first q n < n = there q n e in
+        count-one q n e (first q n) (π .to (first p n)) m (π .to-below (first p n) l) (first-passes q n m)
+        (f (first p n) l ∙ first-passes p n l)
+
+-- h′ is h with its cards in another order: those before an end that covers the opening block keep their places, and none of
+-- the block's codes stands behind it
+pub record Moved (h h′ : List ℕ) : Type 0 where
+  pub order : Rearranged (cardsIn h)
+  pub same-length : length h′ ≡ length h
+  pub same-card : (c : ℕ) → c < cardsIn h → cardAt h′ (order .to c) ≡ cardAt h c
+  pub end : ℕ
+  pub covers : openingCards ≤ end
+  pub kept : (c : ℕ) → c < end → order .to c ≡ c
+  pub behind : (c : ℕ) → end ≤ c → c < cardsIn h → waypointCard < layoutOf (cardAt h c)
+
+module _ (h h′ : List ℕ) (m : Moved h h′) where
+  same-count : cardsIn h′ ≡ cardsIn h
+  unfolding cardsIn
+  same-count = ap (λ n. n / 80) (m .same-length)
+
+  -- every card has the form that it had
+  line-moved : (v : ℕ) → lineForm h′ v ≡ lineForm h v
+  unfolding lineForm statesLine
+  line-moved v = rw same-count (only-moved (m .order) (statesLine h v) (statesLine h′ v)
+      (λ c. byteIn (cardAt h c) 32) (λ c. byteIn (cardAt h′ c) 32)
+      (λ i l. ap (λ (s : List ℕ). eqb (layoutOf s) 8 && eqb (byteIn s 30) v) (m .same-card i l))
+      (λ i l. ap (λ (s : List ℕ). byteIn s 32) (m .same-card i l)))
+
+  grid-moved : gridForm h′ ≡ gridForm h
+  unfolding gridForm statesGrid
+  grid-moved = rw same-count (only-moved (m .order) (statesGrid h) (statesGrid h′)
+      (λ c. byteIn (cardAt h c) 21) (λ c. byteIn (cardAt h′ c) 21)
+      (λ i l. ap (λ (s : List ℕ). eqb (layoutOf s) 12) (m .same-card i l))
+      (λ i l. ap (λ (s : List ℕ). byteIn s 21) (m .same-card i l)))
+
+  pub form-moved : (s : List ℕ) → formOf h′ s ≡ formOf h s
+  unfolding formOf
+  form-moved s = rw (line-moved (byteIn s 7), grid-moved)
+
+  -- a card before the end stands where it stood
+  kept-card : (c : ℕ) → c < m .end → c < cardsIn h → cardAt h′ c ≡ cardAt h c
+  kept-card c l k = ap (cardAt h′) (sym (m .kept c l)) ∙ m .same-card c k
+
+  kept-before : (c : ℕ) → c < m .end → c < cardsIn h → layoutBefore h′ c ≡ layoutBefore h c
+  unfolding layoutBefore
+  kept-before zero l k = refl
+  kept-before (suc c) l k = ap layoutOf (kept-card c (omega arith) (omega arith))
+
+  -- a card behind the end comes to stand behind it
+  still-behind : (c : ℕ) → m .end ≤ c → c < cardsIn h → m .end ≤ m .order .to c
+  still-behind c l k = elim (decLt (m .order .to c) (m .end)) [
+    | yes x ↦
+        let to = m .order .to c in
+        let e : m .order .to to ≡ to = m .kept to x in
+        let q : to ≡ c = sym (m .order .from-to to (m .order .to-below c k)) ∙ ap (m .order .from) e ∙ m .order .from-to c k in
+        absurd (omega arith)
+    | no x ↦ omega arith
+  ]
+
+  -- and there it is in place, wherever
+  anywhere : (c k before : ℕ) → openingCards ≤ c → waypointCard < k → inPlace c k before ≡ true
+  unfolding inPlace mayFollow
+  anywhere c k before l q =
+      rw (le-ltb c 9 l, le-ltb k 8 (omega arith), ne-eqb k 8 (λ r. omega arith), ne-eqb k 9 (λ r. omega arith))
+
+  place-moved : (c : ℕ) → c < cardsIn h → standsAt h′ (m .order .to c) ≡ standsAt h c
+  unfolding standsAt
+  place-moved c k = elim (decLt c (m .end)) [
+    | yes l ↦ rw (m .kept c l, kept-card c l k, kept-before c l k)
+    | no l ↦
+        let q : waypointCard < layoutOf (cardAt h c) = m .behind c (omega arith) k in
+        anywhere (m .order .to c) (layoutOf (cardAt h′ (m .order .to c))) (layoutBefore h′ (m .order .to c))
+        (omega (arith, still-behind c (omega arith) k, m .covers)) (rw (m .same-card c k) q)
+        ∙ sym (anywhere c (layoutOf (cardAt h c)) (layoutBefore h c) (omega (arith, m .covers)) q)
+  ]
+
+  -- every card has the verdict that it had
+  pub verdict-moved : (c : ℕ) → c < cardsIn h → verdictAt h′ (m .order .to c) ≡ verdictAt h c
+  unfolding verdictAt
+  verdict-moved c k = rw (
+    lt-ltb c (cardsIn h) k,
+    same-count,
+    lt-ltb (m .order .to c) (cardsIn h) (m .order .to-below c k),
+    m .same-card c k,
+    form-moved (cardAt h c),
+    place-moved c k,
+  )
+
+  past-moved : verdictAt h′ (cardsIn h) ≡ verdictAt h (cardsIn h)
+  unfolding verdictAt
+  past-moved = rw (same-count, le-ltb (cardsIn h) (cardsIn h) (omega arith))
+
+  fine-there : Fine-throughout h → Fine-throughout h′
+  fine-there f c l = elim (decLt c (cardsIn h)) [
+    | yes k ↦
+        ap (verdictAt h′) (sym (m .order .to-from c k))
+        ∙ verdict-moved (m .order .from c) (m .order .from-below c k)
+        ∙ f (m .order .from c) (omega (arith, m .order .from-below c k))
+    | no k ↦
+        let e : c ≡ cardsIn h = omega (arith, same-count) in
+        ap (verdictAt h′) e ∙ past-moved ∙ f (cardsIn h) (omega arith)
+  ]
+
+  fine-back : Fine-throughout h′ → Fine-throughout h
+  fine-back f c l = elim (decLt c (cardsIn h)) [
+    | yes k ↦ sym (verdict-moved c k) ∙ f (m .order .to c) (omega (arith, same-count, m .order .to-below c k))
+    | no k ↦
+        let e : c ≡ cardsIn h = omega arith in
+        ap (verdictAt h) e ∙ sym past-moved ∙ f (cardsIn h) (omega (arith, same-count))
+  ]
+
+  sized-there : Sized h → Sized h′
+  sized-there s = record {
+    some = λ e. s .some (sym (m .same-length) ∙ e);
+    whole = ap (λ n. n % 80) (m .same-length) ∙ s .whole;
+    few = omega (arith, s .few, same-count);
+  }
+
+  sized-back : Sized h′ → Sized h
+  sized-back s = record {
+    some = λ e. s .some (m .same-length ∙ e);
+    whole = sym (ap (λ n. n % 80) (m .same-length)) ∙ s .whole;
+    few = omega (arith, s .few, same-count);
+  }
+
+  -- so one is accepted exactly where the other is
+  pub accepted-moved : (refusalOf h ≡ Accepted) ↔ (refusalOf h′ ≡ Accepted)
+  accepted-moved = (
+    λ a. let e = accepted-exactly h .0 a in accepted-exactly h′ .1 (sized-there (e .0), fine-there (e .1)),
+    λ a. let e = accepted-exactly h′ .0 a in accepted-exactly h .1 (sized-back (e .0), fine-back (e .1)),
+  )
+
+not-fine : (n column : ℕ) → Offence n column ≡ Fine → ⊥
+not-fine n column q = let z : _≡_ {A = ℕ} 0 1 = cc in omega arith
+
+-- a card that is fine is in place
+in-place-by : (s : List ℕ) (form : Form) (placed : Bool) → placedVerdict s form placed ≡ Fine → placed ≡ true
+unfolding placedVerdict readable
+in-place-by s form true e = refl
+in-place-by s form false e = absurd (apart (ltb (firstBad s) 80) (isUnknown (codeOf (take 5 s))) e)
+  where
+    apart : (x y : Bool) → cond x (Offence 4 (firstBad s + 1)) (cond y (Offence 5 1) (Offence 6 1)) ≡ Fine → ⊥
+    apart true y q = not-fine 4 (firstBad s + 1) q
+    apart false true q = not-fine 5 1 q
+    apart false false q = not-fine 6 1 q
+
+card-verdict : (h : List ℕ) (c : ℕ) → c < cardsIn h
+    → verdictAt h c ≡ placedVerdict (cardAt h c) (formOf h (cardAt h c)) (standsAt h c)
+unfolding verdictAt
+card-verdict h c l = rw (lt-ltb c (cardsIn h) l)
+
+short-verdict : (h : List ℕ) → cardsIn h < 9 → verdictAt h (cardsIn h) ≡ Offence 6 1
+unfolding verdictAt endVerdict
+short-verdict h l = rw (le-ltb (cardsIn h) (cardsIn h) (omega arith), lt-ltb (cardsIn h) 9 l)
+
+-- an accepted header opens with a block
+pub accepted-opens : (h : List ℕ) → refusalOf h ≡ Accepted → Opens (layoutsIn h) (cardsIn h)
+accepted-opens h a = opens-exactly h (cardsIn h) enough .0 (λ c l. stands c l)
+  where
+    fine : Fine-throughout h
+    fine = accepted-exactly h .0 a .1
+
+    enough : openingCards ≤ cardsIn h
+    enough = elim (decLt (cardsIn h) 9) [
+      | yes l ↦ absurd (not-fine 6 1 (sym (short-verdict h l) ∙ fine (cardsIn h) (omega arith)))
+      | no l ↦ omega arith
+    ]
+
+    stands : (c : ℕ) → c < cardsIn h → standsAt h c ≡ true
+    stands c l =
+        in-place-by (cardAt h c) (formOf h (cardAt h c)) (standsAt h c) (sym (card-verdict h c l) ∙ fine c (omega arith))
+
+-- the cards behind the opening block of an accepted header, in any other order, are accepted too
+pub accepted-rearranged : (h h′ : List ℕ) (a : refusalOf h ≡ Accepted) (π : Rearranged (cardsIn h)) → length h′ ≡ length h
+    → ((c : ℕ) → c < cardsIn h → cardAt h′ (π .to c) ≡ cardAt h c)
+    → ((c : ℕ) → c < accepted-opens h a .end → π .to c ≡ c) → refusalOf h′ ≡ Accepted
+accepted-rearranged h h′ a π same card kept = accepted-moved h h′ (record {
+  order = π;
+  same-length = same;
+  same-card = card;
+  end = o .end;
+  covers = omega (arith, o .some, o .ordered);
+  kept = kept;
+  behind = o .later;
+}) .0 a
+  where
+    o : Opens (layoutsIn h) (cardsIn h)
+    o = accepted-opens h a

@@ -1,0 +1,1 @@
+// Laws of the header's refusal; no functions.
