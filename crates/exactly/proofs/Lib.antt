@@ -1,0 +1,13 @@
+pub mod Given
+pub mod Way
+pub mod Fields
+pub mod Room
+pub mod Blanked
+pub mod Entries
+pub mod Columns
+pub mod Cards
+pub mod WholeCards
+pub mod Known
+pub mod OpenedCards
+pub mod Order
+pub mod Cases
