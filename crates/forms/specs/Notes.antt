@@ -8,6 +8,10 @@ use Rattle.card.specs.declared.Form.{Form}
 use Rattle.card.specs.declared.Form.the-variants.{Angles, Grid, Unknown}
 use Rattle.forms.specs.Cards.{cardAt, byteIn, layoutOf, lineCard, waypointCard, gridCard, pointCard}
 
+-- one for the grid and one for each byte
+abbrev pub noteCount : ℕ
+noteCount = 257
+
 -- a form column's byte as it is noted: 1 for form 0, 2 for form 1, 3 where it cannot be known; 0 where none was seen
 unfoldable pub mark : ℕ → ℕ
 mark b = cond (eqb b 48) 1 (cond (eqb b 49) 2 3)
@@ -31,7 +35,7 @@ noteCard t s =
 
 -- the notes of the first cards
 unfoldable pub notesTo : List ℕ → ℕ → List ℕ
-notesTo h zero = replicate 257 0
+notesTo h zero = replicate noteCount 0
 notesTo h (suc c) = noteCard (notesTo h c) (cardAt h c)
 
 -- a card's form by its layout and the notes

@@ -4,26 +4,27 @@ use codes::Code;
 ghost use mathlib.Core.Path.{_≡_};
 ghost use Prim.Native.Nat.{_+_, _<_};
 ghost use Rattle.forms.specs.Cards.{numberOf, cardsIn, layoutOf};
-ghost use Rattle.forms.specs.Notes.{mark, noted, told, noteAt, noteCard, notesTo, formBy};
+ghost use Rattle.forms.specs.Notes.{noteCount, mark, noted, told, noteAt, noteCard, notesTo, formBy};
 
-const CARD: usize = 80;
+// The columns of a card, and those of its code.
+pub const CARD: usize = 80;
 
-const CODE: usize = 5;
+pub const CODE: usize = 5;
 
 // The number that stands for a code that no layout reads.
-const UNREAD: usize = 99;
+pub const UNREAD: usize = 99;
 
 // H00@8 and H00@9, H0100 and H0101 among the layouts.
-const LINE_CARD: usize = 8;
+pub const LINE_CARD: usize = 8;
 
-const WAYPOINT_CARD: usize = 9;
+pub const WAYPOINT_CARD: usize = 9;
 
 const GRID_CARD: usize = 12;
 
 const POINT_CARD: usize = 13;
 
 // A note for the grid and one for each byte that names a vessel.
-const NOTES: usize = 257;
+pub const NOTES: usize = 257;
 
 // What a note says: no card seen, form 0, form 1, or it cannot be known.
 const NONE: u8 = 0;
@@ -92,13 +93,13 @@ fn form_told(note: u8) -> Form
 
 // Where a vessel's note stands: the grid's stands before them.
 fn place_of(vessel: u8) -> usize
-    ensures { λ r. ⌜ (r ≡ 1 + vessel) × (r < 257) ⌝ }
+    ensures { λ r. ⌜ (r ≡ 1 + vessel) × (r < noteCount) ⌝ }
 {
     1 + vessel as usize
 }
 
 fn note(notes: &mut [u8; NOTES], place: usize, byte: u8)
-    requires { ⌜ place < 257 ⌝ }
+    requires { ⌜ place < noteCount ⌝ }
     ensures { λ _. ⌜ now (notes .exit) ≡ noteAt (now (notes .entry)) place byte ⌝ }
 {
     notes[place] = note_again(notes[place], byte);

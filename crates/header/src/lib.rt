@@ -2,6 +2,12 @@
 use card::Form;
 use card::Verdict;
 use codes::Code;
+use forms::CARD;
+use forms::CODE;
+use forms::LINE_CARD;
+use forms::NOTES;
+use forms::UNREAD;
+use forms::WAYPOINT_CARD;
 use seeking::Refusal;
 ghost use mathlib.Core.Path.{_≡_};
 ghost use lib.ListN.{length};
@@ -11,25 +17,11 @@ ghost use Rattle.forms.specs.Notes.{notesTo};
 ghost use Rattle.header.specs.Opening.{mayFollow, inPlace};
 ghost use Rattle.header.specs.Refusing.{isUnknown, readable, placedVerdict, endVerdict, answerFor, cardsAnswer, refusalOf};
 
-const CARD: usize = 80;
-
-const CODE: usize = 5;
-
 // The most cards that a header may have.
 const LARGEST: usize = 800;
 
 // The cards of the shortest opening block; the layouts 0 to 8 stand there in that order.
 const OPENING: usize = 9;
-
-// H00@8 and H00@9 among the layouts, and the number that stands for a code that none reads.
-const LINE_CARD: usize = 8;
-
-const WAYPOINT_CARD: usize = 9;
-
-const UNREAD: usize = 99;
-
-// A note of the form for the grid and one for each byte that names a vessel.
-const NOTES: usize = 257;
 
 // The answer to a header.
 pub enum Checked {
