@@ -222,16 +222,82 @@ fn set_columns(s: &[u8], columns: &mut [u8]) -> Count
     Count::Is(i as u64)
 }
 
-// Sets the columns to what stands between the bars, and answers how many these are.
-pub fn columns_in(s: &[u8], columns: &mut [u8]) -> Count
+// Sets the columns to what stands between a bar and an end, and answers how many these are.
+pub fn columns_to(s: &[u8], end: u8, columns: &mut [u8]) -> Count
     ensures { λ r. ⌜ numberOf r ≤ length (now (columns .entry)) ⌝ }
 {
     if s.len() < 2 {
         return Count::Not;
     }
     let last = s.len() - 1;
-    if (s[0] != BAR) | (s[last] != BAR) {
+    if (s[0] != BAR) | (s[last] != end) {
         return Count::Not;
     }
     set_columns(&s[1..last], columns)
+}
+
+// Sets the columns to what stands between the bars, and answers how many these are.
+pub fn columns_in(s: &[u8], columns: &mut [u8]) -> Count
+    ensures { λ r. ⌜ numberOf r ≤ length (now (columns .entry)) ⌝ }
+{
+    columns_to(s, BAR, columns)
+}
+
+// What stands before the first bar and the blank before it.
+pub fn before_bar(s: &[u8]) -> &[u8]
+    ensures { λ r. ⌜ length (now r) ≤ length (now (s .entry)) ⌝ }
+{
+    let at = place(s, BAR);
+    if at == 0 {
+        return front(s, 0);
+    }
+    front(s, at - 1)
+}
+
+// From the first bar on, empty where there is none.
+pub fn from_bar(s: &[u8]) -> &[u8]
+    ensures { λ r. ⌜ length (now r) ≤ length (now (s .entry)) ⌝ }
+{
+    let at = place(s, BAR);
+    &s[at..]
+}
+
+// Whether a byte stands at a place.
+fn stands(s: &[u8], i: usize, b: u8) -> bool {
+    if i < s.len() {
+        return s[i] == b;
+    }
+    false
+}
+
+// The place of the first blank between two bars, past the first two bytes, or the length where there is none.
+fn seam(s: &[u8]) -> usize
+    ensures { λ r. ⌜ r ≤ length (now (s .entry)) ⌝ }
+{
+    let mut i = 2;
+    while i < s.len() {
+        if stands(s, i - 1, BAR) & stands(s, i, BLANK) & stands(s, i + 1, BAR) {
+            return i;
+        }
+        i += 1;
+    }
+    s.len()
+}
+
+// The first of two parts between bars, or all.
+pub fn first_part(s: &[u8]) -> &[u8]
+    ensures { λ r. ⌜ length (now r) ≤ length (now (s .entry)) ⌝ }
+{
+    front(s, seam(s))
+}
+
+// The second of two parts between bars, empty where there is none.
+pub fn second_part(s: &[u8]) -> &[u8]
+    ensures { λ r. ⌜ length (now r) ≤ length (now (s .entry)) ⌝ }
+{
+    let at = seam(s);
+    if at < s.len() {
+        return &s[at + 1..];
+    }
+    &s[at..]
 }

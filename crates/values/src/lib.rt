@@ -164,7 +164,7 @@ fn push_named(out: &mut [u8], n: usize, name: &[u8], z: i64) -> usize
 }
 
 // Puts a value.
-fn push_value(out: &mut [u8], n: usize, v: Value) -> usize
+pub fn push_value(out: &mut [u8], n: usize, v: Value) -> usize
     ensures { λ r. ⌜ r ≤ max n (length (now (out .entry))) ⌝ }
 {
     match v {
