@@ -1,12 +1,12 @@
 // The commands on one card: field, text, open, put, puttext and judge.
 use card::Form;
-use opening::Opened;
 use card::Verdict;
 use entry::Entered;
 use field::FieldRead;
-use seeking::Refusal;
+use opening::Opened;
 use script::Count;
 use script::page;
+use seeking::Refusal;
 use spelling::Value;
 use values::Offer;
 ghost use Prim.Native.Nat.{_≤_};

@@ -20,7 +20,7 @@ use Rattle.position.specs.declared.Angled.{Angled}
 use Rattle.position.specs.declared.Angled.the-variants as angled
 use Rattle.position.specs.declared.Axis.the-variants.{Y, X}
 use Rattle.position.specs.Angles.{angleOf}
-use Rattle.position.specs.Grid.{gridOf}
+use Rattle.grid.specs.Grid.{gridOf}
 use Rattle.text.specs.Texts.{textEnd, leadingBlank}
 use Rattle.text.proofs.Agreed.{end-le}
 use Rattle.spelling.specs.declared.Value.{Value}

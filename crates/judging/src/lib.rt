@@ -27,7 +27,7 @@ fn columns(card: &[u8], first: usize, last: usize) -> &[u8]
 }
 
 // Whether columns are all blank.
-pub fn is_blank(s: &[u8]) -> bool
+fn is_blank(s: &[u8]) -> bool
     ensures { λ r. ⌜ r ≡ isBlank (now (s .entry)) ⌝ }
 {
     text::text_end(s) == 0

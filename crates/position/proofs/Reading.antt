@@ -1,4 +1,4 @@
--- What each way through the reading of a coordinate finds.
+-- What each way through the reading of an angle finds.
 use Prim.Native.Nat.{ℕ, _+_, _-_, _^_, _≤_, _<_}
 use native.Mathlib.Omega.{arith}
 use native.Mathlib.Nat.{pow-le-pow-right}
@@ -13,15 +13,12 @@ use Rattle.digits.specs.Figures.{blanks, unpadded, leading, behind, valueFrom, 
 use Rattle.digits.proofs.Numbers.{value-below}
 use Rattle.digits.proofs.Parts.{rest-part}
 use Rattle.digits.proofs.Walk.{leading-take}
-use Rattle.number.specs.Reading.{pointOf, figuresOf, numberOf}
+use Rattle.number.specs.Reading.{pointOf, figuresOf}
 use Rattle.signs.specs.Signs.{signedOf}
 use Rattle.number.specs.declared.Figures.{Figures}
 use Rattle.number.specs.declared.Figures.the-variants.{Units, Not}
-use Rattle.number.specs.declared.Number.{Number}
-use Rattle.number.specs.declared.Number.the-variants.{Absent as NoNumber, Malformed as Odd}
 use Rattle.position.specs.Axes.{boundOf, letterOf}
 use Rattle.position.specs.Angles.{part, paddedOf, unitsOf, partsOf, isSpelled, arcOf, angledOf, angleOf}
-use Rattle.position.specs.Grid.{presentOf, gridOf}
 use Rattle.position.specs.declared.Axis.{Axis}
 use Rattle.position.specs.declared.Parts.{Parts}
 use Rattle.position.specs.declared.Angled.the-variants.{Absent, Held, Malformed, OutOfRange}
@@ -87,10 +84,6 @@ module _ (a : Axis) (s : List ℕ) (at : ℕ) (e : at ≡ blanks s) where
   unfolding angleOf
   angle-absent h = rw (eq-eqb (blanks s) (length s) (sym e ∙ h))
 
-  pub grid-absent : at ≡ length s → NoNumber ≡ gridOf a s
-  unfolding gridOf
-  grid-absent h = rw (eq-eqb (blanks s) (length s) (sym e ∙ h))
-
   module _ (present : at ≡ length s → ⊥) where
     some-present : eqb (blanks s) (length s) ≡ false
     some-present = ne-eqb (blanks s) (length s) (λ q. present (e ∙ q))
@@ -107,12 +100,3 @@ module _ (a : Axis) (s : List ℕ) (at : ℕ) (e : at ≡ blanks s) where
       pub angle-parts : b ≡ true → (l : ℕ) → l ≡ letterOf a true → angledOf a (eqb (getD s 11 0) l) p ≡ angleOf a s
       unfolding angleOf
       angle-parts h l k = rw (some-present, eq-eqb (length s) 12 wide, ← q, ← r, h, ← k)
-
-    module _ (l : ℕ) (k : l ≡ letterOf a false) where
-      pub grid-other : (getD s (length s - 1) 0 ≡ l → ⊥) → Odd ≡ gridOf a s
-      unfolding gridOf
-      grid-other h = rw (some-present, ← k, ne-eqb (getD s (length s - 1) 0) l h)
-
-      pub grid-number : getD s (length s - 1) 0 ≡ l → (n : Number) → n ≡ numberOf true (take (length s - 1) s) → presentOf n ≡ gridOf a s
-      unfolding gridOf
-      grid-number h n q = rw (some-present, ← k, eq-eqb (getD s (length s - 1) 0) l h, ← q)

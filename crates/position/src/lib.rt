@@ -1,4 +1,4 @@
-// Coordinates in columns: angles in degrees, minutes and seconds (form 0), and grid coordinates (form 1).
+// Coordinates in columns in form 0: angles in degrees, minutes and seconds.
 ghost use mathlib.Core.Path.{_≡_};
 ghost use Prim.Native.Nat.{_<_, _≤_};
 ghost use lib.ListN.{length};
@@ -6,7 +6,6 @@ ghost use Rattle.digits.specs.Columns.{answerOf, enteredIn};
 ghost use Rattle.signs.specs.Signs.{signedOf};
 ghost use Rattle.position.specs.Axes.{boundOf, letterOf};
 ghost use Rattle.position.specs.Angles.{paddedOf, isNumber, unitsOf, partsOf, isSpelled, angledOf, angleOf, figuresIn, angleIn};
-ghost use Rattle.position.specs.Grid.{presentOf, gridOf, gridIn};
 
 const POINT: u8 = 46;
 
@@ -205,47 +204,5 @@ pub fn write_angle(columns: &mut [u8], axis: Axis, angle: i64) -> digits::Writte
     }
     numerals::write_plain(&mut columns[..LAST], figures(n), 3);
     columns[LAST] = letter(axis, signs::below_zero(angle));
-    digits::Written::Done
-}
-
-// A number that has to be there.
-fn present(found: number::Number) -> number::Number
-    ensures { λ r. ⌜ r ≡ presentOf found ⌝ }
-{
-    match found {
-        number::Number::Absent => number::Number::Malformed,
-        number::Number::Held(d) => number::Number::Held(d),
-        number::Number::Malformed => number::Number::Malformed,
-        number::Number::OutOfRange => number::Number::OutOfRange,
-    }
-}
-
-// Reads the grid coordinate that fills s.
-pub fn read_grid(s: &[u8], axis: Axis) -> number::Number
-    ensures { λ r. ⌜ r ≡ gridOf axis (now (s .entry)) ⌝ }
-{
-    if digits::padding(s) == s.len() {
-        return number::Number::Absent;
-    }
-    let last = s.len() - 1;
-    if s[last] != letter(axis, false) {
-        return number::Number::Malformed;
-    }
-    present(number::read_number(&s[..last], true))
-}
-
-// Writes a grid coordinate, or changes nothing where it has no room.
-pub fn write_grid(columns: &mut [u8], axis: Axis, d: number::Decimal) -> digits::Written
-    ensures answer { λ r. ⌜ r ≡ answerOf (gridIn axis (length (now (columns .entry))) d) ⌝ }
-    ensures columns { λ _. ⌜ now (columns .exit) ≡ enteredIn (gridIn axis (length (now (columns .entry))) d) (now (columns .entry)) ⌝ }
-{
-    if columns.len() == 0 {
-        return digits::Written::NoRoom;
-    }
-    let last = columns.len() - 1;
-    if !numerals::write_decimal(&mut columns[..last], d) {
-        return digits::Written::NoRoom;
-    }
-    columns[last] = letter(axis, false);
     digits::Written::Done
 }

@@ -27,7 +27,7 @@ use Rattle.position.specs.declared.Axis.the-variants.{Y, X}
 use Rattle.position.specs.Angles.{unitsOf, partsOf as partsIn, arcOf, isSpelled, angledOf, angleOf}
 use Rattle.position.specs.Axes.{boundOf, letterOf}
 use Rattle.position.specs.declared.Parts.{Parts}
-use Rattle.position.specs.Grid.{presentOf, gridOf}
+use Rattle.grid.specs.Grid.{presentOf, gridOf}
 use Rattle.text.specs.Texts.{textEnd, leadingBlank}
 use Rattle.text.proofs.Back.{end-blanks}
 use Rattle.text.proofs.Agreed.{blank-behind}

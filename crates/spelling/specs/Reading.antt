@@ -13,7 +13,7 @@ use Rattle.position.specs.declared.Angled.{Angled}
 use Rattle.position.specs.declared.Angled.the-variants.{Absent as NoAngle, Held as Arc, Malformed as OddAngle, OutOfRange as LargeAngle}
 use Rattle.position.specs.declared.Axis.the-variants.{Y, X}
 use Rattle.position.specs.Angles.{angleOf}
-use Rattle.position.specs.Grid.{gridOf}
+use Rattle.grid.specs.Grid.{gridOf}
 use Rattle.text.specs.Texts.{textEnd, textOf, leadingBlank}
 use Rattle.spelling.specs.declared.Columns.{Columns}
 use Rattle.spelling.specs.declared.Value.{Value}

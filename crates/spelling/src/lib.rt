@@ -119,8 +119,8 @@ pub fn read(s: &[u8], spelling: Spelling) -> Reading
         Spelling::Date => date_of(date::read_date(s)),
         Spelling::Latitude => angle_of(position::read_angle(s, Axis::Y)),
         Spelling::Longitude => angle_of(position::read_angle(s, Axis::X)),
-        Spelling::Northing => decimal_of(position::read_grid(s, Axis::Y)),
-        Spelling::Easting => decimal_of(position::read_grid(s, Axis::X)),
+        Spelling::Northing => decimal_of(grid::read_grid(s, Axis::Y)),
+        Spelling::Easting => decimal_of(grid::read_grid(s, Axis::X)),
     }
 }
 

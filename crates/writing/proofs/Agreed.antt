@@ -23,8 +23,9 @@ use Rattle.position.specs.declared.Angled.the-variants.{Absent as NoAngle, Held
 use Rattle.position.specs.declared.Axis.{Axis}
 use Rattle.position.specs.declared.Axis.the-variants.{Y, X}
 use Rattle.position.specs.Angles.{angleOf}
-use Rattle.position.specs.Grid.{gridOf}
-use Rattle.position.proofs.Agreed.{angle-agreed, grid-agreed}
+use Rattle.grid.specs.Grid.{gridOf}
+use Rattle.position.proofs.Agreed.{angle-agreed}
+use Rattle.grid.proofs.Agreed.{grid-agreed}
 use Rattle.text.specs.Texts.{textEnd, textOf, printable, leadingBlank, textIn}
 use Rattle.text.proofs.Agreed.{text-again}
 use Rattle.spelling.specs.declared.Columns.{Columns}

@@ -16,8 +16,9 @@ use Rattle.date.proofs.Back.{date-back}
 use Rattle.position.specs.declared.Axis.{Axis}
 use Rattle.position.specs.declared.Axis.the-variants.{Y, X}
 use Rattle.position.specs.Angles.{angleOf}
-use Rattle.position.specs.Grid.{gridOf}
-use Rattle.position.proofs.Back.{angle-back, grid-back}
+use Rattle.grid.specs.Grid.{gridOf}
+use Rattle.position.proofs.Back.{angle-back}
+use Rattle.grid.proofs.Back.{grid-back}
 use Rattle.text.specs.Texts.{textEnd, textOf, leadingBlank, textIn}
 use Rattle.text.proofs.Back.{PutText, text-back}
 use Rattle.spelling.specs.declared.Value.{Value}

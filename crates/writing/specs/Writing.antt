@@ -11,7 +11,7 @@ use Rattle.date.specs.Dates.{dateIn}
 use Rattle.position.specs.declared.Axis.{Axis}
 use Rattle.position.specs.declared.Axis.the-variants.{Y, X}
 use Rattle.position.specs.Angles.{angleIn}
-use Rattle.position.specs.Grid.{gridIn}
+use Rattle.grid.specs.Grid.{gridIn}
 use Rattle.text.specs.Texts.{textOf, textIn}
 use Rattle.spelling.specs.declared.Value.{Value}
 use Rattle.spelling.specs.declared.Value.the-variants.{Absent, Whole, Decimal, Angle, Date, Text}

@@ -102,7 +102,7 @@ fn write_grid(columns: &mut [u8], axis: Axis, v: Value) -> Written
 {
     match v {
         Value::Absent => blank(columns),
-        Value::Decimal(d) => position::write_grid(columns, axis, d),
+        Value::Decimal(d) => grid::write_grid(columns, axis, d),
         _ => Written::OtherKind,
     }
 }

@@ -10,7 +10,7 @@ use Rattle.spelling.proofs.read.Lts as lts
 use Rattle.date.proofs.read_date.Reads as read-date-reads
 use Rattle.number.proofs.read_number.Reads as read-number-reads
 use Rattle.position.proofs.read_angle.Reads as read-angle-reads
-use Rattle.position.proofs.read_grid.Reads as read-grid-reads
+use Rattle.grid.proofs.read_grid.Reads as read-grid-reads
 use Rattle.spelling.proofs.angle_of.Reads as angle-of-reads
 use Rattle.spelling.proofs.date_of.Reads as date-of-reads
 use Rattle.spelling.proofs.decimal_of.Reads as decimal-of-reads

@@ -10,7 +10,7 @@ use Rattle.writing.proofs.write_grid.Statement.{statement}
 use Rattle.writing.proofs.write_grid.Tie as tie
 use Rattle.writing.proofs.write_grid.Reads as reads
 use Rattle.writing.proofs.write_grid.Lts as lts
-use Rattle.position.proofs.write_grid.Reads as write-grid-reads
+use Rattle.grid.proofs.write_grid.Reads as write-grid-reads
 use Rattle.writing.proofs.blank.Reads as blank-reads
 
 -- src/lib.rt:243:32

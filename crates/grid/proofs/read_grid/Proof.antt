@@ -1,11 +1,11 @@
 -- `position::read_grid` meets its contract.
 use mathlib.Core.Path.{sym, _∙_}
 use lib.Seq.{length-take-le}
-use Rattle.position.proofs.Reading.{grid-absent, grid-other, grid-number}
+use Rattle.grid.proofs.Reading.{grid-absent, grid-other, grid-number}
 use native.Mathlib.Omega.{arith}
 use borrow.Author.Needs.{needs}
-use Rattle.position.proofs.read_grid.Statement.{statement}
-use Rattle.position.proofs.read_grid.Tie as tie
+use Rattle.grid.proofs.read_grid.Statement.{statement}
+use Rattle.grid.proofs.read_grid.Tie as tie
 
 padding-requires : tie.Need-padding-requires
 padding-requires c κs = search needs

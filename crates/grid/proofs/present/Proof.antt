@@ -1,9 +1,9 @@
 -- `position::present` meets its contract.
 use mathlib.Core.Path.{sym, ap}
-use Rattle.position.specs.Grid.{presentOf}
+use Rattle.grid.specs.Grid.{presentOf}
 use borrow.Author.Needs.{needs}
-use Rattle.position.proofs.present.Statement.{statement}
-use Rattle.position.proofs.present.Tie as tie
+use Rattle.grid.proofs.present.Statement.{statement}
+use Rattle.grid.proofs.present.Tie as tie
 
 enum-told : tie.Need-enum-told
 enum-told c = search needs

@@ -4,11 +4,11 @@ use borrow.Author.Tests.{not-true, not-false}
 use denote.Ref.{now}
 use lib.Seq.{length-take-le}
 use Rattle.digits.proofs.Answers.{made, turned-away}
-use Rattle.position.proofs.Writing.{grid-empty, grid-no-room, grid-written}
+use Rattle.grid.proofs.Writing.{grid-empty, grid-no-room, grid-written}
 use native.Mathlib.Omega.{arith}
 use borrow.Author.Needs.{needs}
-use Rattle.position.proofs.write_grid.Statement.{statement}
-use Rattle.position.proofs.write_grid.Tie as tie
+use Rattle.grid.proofs.write_grid.Statement.{statement}
+use Rattle.grid.proofs.write_grid.Tie as tie
 
 returns : tie.Need-returns
 returns c = turned-away _ (grid-empty _ (now (c .before .before .args .columns)) (c .before .before .args .d) (c .if1 .taken))

@@ -1,0 +1,64 @@
+// Coordinates in columns in form 1: a number, and the letter of its axis.
+use position::Axis;
+ghost use mathlib.Core.Path.{_≡_};
+ghost use mathlib.Core.Bool.{false};
+ghost use lib.ListN.{length};
+ghost use Rattle.digits.specs.Columns.{answerOf, enteredIn};
+ghost use Rattle.position.specs.Axes.{letterOf};
+ghost use Rattle.grid.specs.Grid.{presentOf, gridOf, gridIn};
+
+const EAST: u8 = 69;
+
+const NORTH: u8 = 78;
+
+// The letter behind a coordinate.
+fn letter(axis: Axis) -> u8
+    ensures { λ r. ⌜ r ≡ letterOf axis false ⌝ }
+{
+    match axis {
+        Axis::Y => NORTH,
+        Axis::X => EAST,
+    }
+}
+
+// A number that has to be there.
+fn present(found: number::Number) -> number::Number
+    ensures { λ r. ⌜ r ≡ presentOf found ⌝ }
+{
+    match found {
+        number::Number::Absent => number::Number::Malformed,
+        number::Number::Held(d) => number::Number::Held(d),
+        number::Number::Malformed => number::Number::Malformed,
+        number::Number::OutOfRange => number::Number::OutOfRange,
+    }
+}
+
+// Reads the grid coordinate that fills s.
+pub fn read_grid(s: &[u8], axis: Axis) -> number::Number
+    ensures { λ r. ⌜ r ≡ gridOf axis (now (s .entry)) ⌝ }
+{
+    if digits::padding(s) == s.len() {
+        return number::Number::Absent;
+    }
+    let last = s.len() - 1;
+    if s[last] != letter(axis) {
+        return number::Number::Malformed;
+    }
+    present(number::read_number(&s[..last], true))
+}
+
+// Writes a grid coordinate, or changes nothing where it has no room.
+pub fn write_grid(columns: &mut [u8], axis: Axis, d: number::Decimal) -> digits::Written
+    ensures answer { λ r. ⌜ r ≡ answerOf (gridIn axis (length (now (columns .entry))) d) ⌝ }
+    ensures columns { λ _. ⌜ now (columns .exit) ≡ enteredIn (gridIn axis (length (now (columns .entry))) d) (now (columns .entry)) ⌝ }
+{
+    if columns.len() == 0 {
+        return digits::Written::NoRoom;
+    }
+    let last = columns.len() - 1;
+    if !numerals::write_decimal(&mut columns[..last], d) {
+        return digits::Written::NoRoom;
+    }
+    columns[last] = letter(axis);
+    digits::Written::Done
+}
