@@ -21,7 +21,7 @@ use Rattle.writing.proofs.Back.{value-back, text-read-back as field-text-back}
 use Rattle.writing.proofs.Printed.{both, value-printed, text-printed}
 use Rattle.layout.specs.declared.Field.{Field}
 use Rattle.codes.specs.Codes.{codeOf}
-use Rattle.layout.specs.Layouts.{inRange}
+use Rattle.ranges.specs.Ranges.{inRange}
 use Rattle.layout.proofs.Numbers.{found-lies}
 use Rattle.judging.specs.declared.Judged.the-variants as judged
 use Rattle.field.specs.declared.FieldRead.the-variants as read

@@ -32,7 +32,9 @@ use Rattle.layout.specs.declared.Range.the-variants.{Any, AtLeast, Between, One
 use Rattle.layout.proofs.Columns.{ranged}
 use Rattle.layout.specs.declared.Field.{Field}
 use Rattle.layout.specs.declared.Found.the-variants as found
-use Rattle.layout.specs.Layouts.{fieldsOf, fieldOf, noField, inRange, isAny, allows}
+use Rattle.layout.specs.Layouts.{fieldsOf, fieldOf, noField}
+use Rattle.ranges.specs.Ranges.{inRange, allows}
+use Rattle.layout.specs.Layouts.{isAny}
 use Rattle.layout.proofs.Numbers.{found-lies, found-ranged}
 use Rattle.seeking.proofs.Steps.{found-there}
 use Rattle.seeking.specs.declared.Refusal.{Refusal}

@@ -11,7 +11,8 @@ use Rattle.spelling.specs.declared.Value.{Value}
 use Rattle.spelling.specs.declared.Value.the-variants.{Absent, Whole, Decimal, Angle, Date, Text}
 use Rattle.writing.specs.Writing.{entryOf, textEntryOf}
 use Rattle.layout.specs.declared.Field.{Field}
-use Rattle.layout.specs.Layouts.{fieldsOf, inRange}
+use Rattle.layout.specs.Layouts.{fieldsOf}
+use Rattle.ranges.specs.Ranges.{inRange}
 use Rattle.seeking.specs.declared.Refusal.{Refusal}
 use Rattle.seeking.specs.declared.Sought.{Sought}
 use Rattle.seeking.specs.declared.Sought.the-variants as sought

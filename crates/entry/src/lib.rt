@@ -60,7 +60,7 @@ fn is_within(f: Field, v: Value) -> bool
     ensures { λ r. ⌜ r ≡ within f v ⌝ }
 {
     match v {
-        Value::Whole(z) => layout::in_range(f, z),
+        Value::Whole(z) => ranges::in_range(f, z),
         _ => true,
     }
 }

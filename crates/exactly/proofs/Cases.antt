@@ -17,7 +17,8 @@ use Rattle.spelling.specs.Reading.{textReading, wholeReading, decimalReading, r
 use Rattle.layout.specs.Shape.{bytes}
 use Rattle.layout.specs.Table.{layouts, passedCodes}
 use Rattle.codes.specs.Codes.{byteFits, fitsAt, fits, codes, placeIn, codeAt, codeOf}
-use Rattle.layout.specs.Layouts.{layoutAt, fieldsOf, inRange}
+use Rattle.layout.specs.Layouts.{layoutAt, fieldsOf}
+use Rattle.ranges.specs.Ranges.{inRange}
 use Rattle.seeking.specs.Card.{refusal, firstBad}
 use Rattle.judging.specs.Fields.{columnsOf, isBlank, spellingOf, anySecond}
 use Rattle.entry.specs.Putting.{placedIn}

@@ -18,7 +18,8 @@ use Rattle.codes.specs.declared.Code.{Code}
 use Rattle.codes.specs.declared.Code.the-variants as code
 use Rattle.layout.specs.declared.Field.{Field}
 use Rattle.codes.specs.Codes.{codeOf}
-use Rattle.layout.specs.Layouts.{fieldsOf, labelOf, inRange}
+use Rattle.layout.specs.Layouts.{fieldsOf, labelOf}
+use Rattle.ranges.specs.Ranges.{inRange}
 use Rattle.layout.proofs.Columns.{inOrder, front, rest}
 use Rattle.seeking.specs.declared.Refusal.{Refusal}
 use Rattle.judging.specs.declared.Judged.the-variants as judged

@@ -35,7 +35,8 @@ use Rattle.layout.specs.declared.Kind.{Kind}
 use Rattle.layout.specs.declared.Kind.the-variants as kind
 use Rattle.layout.specs.declared.Field.{Field}
 use Rattle.layout.specs.declared.Found.the-variants as found
-use Rattle.layout.specs.Layouts.{fieldOf, inRange}
+use Rattle.layout.specs.Layouts.{fieldOf}
+use Rattle.ranges.specs.Ranges.{inRange}
 use Rattle.layout.proofs.Columns.{wideAs}
 use Rattle.layout.proofs.Numbers.{found-lies, found-wide}
 use Rattle.seeking.specs.declared.Refusal.{Refusal}

@@ -20,7 +20,8 @@ use Rattle.spelling.specs.declared.Spelling.{Spelling}
 use Rattle.spelling.specs.Reading.{readingOf}
 use Rattle.spelling.proofs.Absence.{zero-one, blankIn, blank-read, absent-only}
 use Rattle.layout.specs.declared.Field.{Field}
-use Rattle.layout.specs.Layouts.{fieldsOf, inRange}
+use Rattle.layout.specs.Layouts.{fieldsOf}
+use Rattle.ranges.specs.Ranges.{inRange}
 use Rattle.seeking.specs.declared.Refusal.{Refusal}
 use Rattle.judging.specs.declared.Judged.the-variants as judged
 use Rattle.seeking.specs.declared.Sought.{Sought}

@@ -25,7 +25,8 @@ use Rattle.layout.specs.declared.Kind.{Kind}
 use Rattle.layout.specs.declared.Kind.the-variants as kind
 use Rattle.layout.specs.declared.Field.{Field}
 use Rattle.codes.specs.Codes.{codeOf}
-use Rattle.layout.specs.Layouts.{fieldsOf, labelOf, noField, inRange}
+use Rattle.layout.specs.Layouts.{fieldsOf, labelOf, noField}
+use Rattle.ranges.specs.Ranges.{inRange}
 use Rattle.judging.specs.Fields.{columnsOf, spellingOf, anySecond}
 use Rattle.entry.specs.Putting.{isAbsent, within, width, placedIn}
 

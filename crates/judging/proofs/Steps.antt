@@ -33,7 +33,8 @@ use Rattle.spelling.specs.Reading.{textReading, wholeReading, decimalReading, d
 use Rattle.layout.specs.declared.Field.{Field}
 use Rattle.layout.specs.declared.Found.{Found}
 use Rattle.layout.specs.declared.Found.the-variants as found
-use Rattle.layout.specs.Layouts.{fieldOf, fieldsOf, noField, inRange}
+use Rattle.layout.specs.Layouts.{fieldOf, fieldsOf, noField}
+use Rattle.ranges.specs.Ranges.{inRange}
 use Rattle.judging.specs.declared.Judged.the-variants as judged
 use Rattle.judging.specs.Fields.{secondAt, secondBy, anySecond, columnsOf, isBlank, neededOn, readLast, valueOf, heldOf, spellingOf, judgedOf}
 

@@ -17,7 +17,8 @@ use Rattle.layout.specs.declared.Kind.the-variants as kind
 use Rattle.layout.specs.declared.Field.{Field}
 use Rattle.layout.specs.declared.Found.{Found}
 use Rattle.layout.specs.declared.Found.the-variants as found
-use Rattle.layout.specs.Layouts.{fieldsOf, inRange}
+use Rattle.layout.specs.Layouts.{fieldsOf}
+use Rattle.ranges.specs.Ranges.{inRange}
 use Rattle.judging.specs.declared.Judged.{Judged}
 use Rattle.judging.specs.declared.Judged.the-variants.{Is, Not}
 

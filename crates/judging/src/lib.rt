@@ -126,7 +126,7 @@ fn value_of(needed: bool, f: Field, v: Value) -> Judged
             Judged::Is(Value::Absent)
         }
         Value::Whole(z) => {
-            if layout::in_range(f, z) {
+            if ranges::in_range(f, z) {
                 return Judged::Is(Value::Whole(z));
             }
             Judged::Not(10)

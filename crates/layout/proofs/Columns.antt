@@ -14,7 +14,8 @@ use Rattle.layout.specs.declared.Range.the-variants.{Any, AtLeast, Betwe
 use Rattle.layout.specs.declared.Field.{Field}
 use Rattle.layout.specs.Shape.{Layout}
 use Rattle.layout.specs.Table.{layouts}
-use Rattle.layout.specs.Layouts.{layoutAt, fieldsOf, labelOf, noField, isAny}
+use Rattle.layout.specs.Layouts.{layoutAt, fieldsOf, labelOf, noField}
+use Rattle.layout.specs.Layouts.{isAny}
 use Rattle.layout.specs.Packed.{layoutCount}
 use Rattle.layout.proofs.Every.{every, at, and-left, and-right}
 use Rattle.layout.proofs.Places.{layouts-count, has-fields}

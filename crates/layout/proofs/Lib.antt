@@ -2,7 +2,6 @@
 pub mod Every
 pub mod Joined
 pub mod Places
-pub mod Signs
 pub mod Columns
 pub mod Numbers
 pub mod Sets

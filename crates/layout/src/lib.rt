@@ -3,7 +3,7 @@ ghost use mathlib.Core.Path.{_≡_};
 ghost use Prim.Native.Nat.{_≤_, _<_};
 ghost use lib.ListN.{length, getD};
 ghost use mathlib.Core.List.{[]};
-ghost use Rattle.layout.specs.Layouts.{fieldsOf, labelOf, fieldOf, allows, isAny, inRange};
+ghost use Rattle.layout.specs.Layouts.{fieldsOf, labelOf, fieldOf};
 ghost use Rattle.layout.specs.Packed.{layoutCount, kindOf, rangeOf, unpack, fieldTable, fieldStart, labelStart};
 
 mod rows;
@@ -184,37 +184,4 @@ pub fn label_byte(layout: usize, place: usize) -> u8
         return 32;
     }
     LABELS[label_start_by(&table, layout) + place]
-}
-
-fn is_any(range: Range) -> bool
-    ensures { λ r. ⌜ r ≡ isAny range ⌝ }
-{
-    match range {
-        Range::Any => true,
-        Range::AtLeast(_) => false,
-        Range::Between(_, _) => false,
-        Range::OneOf(_, _, _) => false,
-    }
-}
-
-fn allows_size(range: Range, value: u64) -> bool
-    ensures { λ r. ⌜ r ≡ allows range value ⌝ }
-{
-    match range {
-        Range::Any => true,
-        Range::AtLeast(low) => low <= value,
-        Range::Between(low, high) => (low <= value) & (value <= high),
-        Range::OneOf(a, b, c) => (value == a) | (value == b) | (value == c),
-    }
-}
-
-// Whether a whole number is one of the values that a field may have.
-pub fn in_range(field: Field, value: i64) -> bool
-    ensures { λ r. ⌜ r ≡ inRange (field .range) value ⌝ }
-{
-    let range = field.range;
-    if value < 0 {
-        return is_any(range);
-    }
-    allows_size(range, value as u64)
 }

@@ -21,7 +21,7 @@ use Rattle.spelling.proofs.Absence.{zero-one, blankIn, absent-only}
 use Rattle.writing.proofs.Agreed.{value-rewritten as columns-rewritten, text-rewritten as columns-kept}
 use Rattle.writing.proofs.Back.{value-back}
 use Rattle.layout.specs.declared.Field.{Field}
-use Rattle.layout.specs.Layouts.{inRange}
+use Rattle.ranges.specs.Ranges.{inRange}
 use Rattle.judging.specs.declared.Judged.the-variants as judged
 use Rattle.field.specs.declared.FieldRead.the-variants as read
 use Rattle.seeking.specs.declared.Sought.the-variants as sought

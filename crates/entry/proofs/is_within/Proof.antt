@@ -1,6 +1,6 @@
 use Rattle.entry.proofs.Steps.{unranged}
 use Rattle.entry.specs.Putting.{within}
-use Rattle.layout.specs.Layouts.{inRange}
+use Rattle.ranges.specs.Ranges.{inRange}
 use mir.ValLaws.{toZ-ofZ}
 use mir.Syntax.{w64}
 use lib.IntN.{ℤ}
@@ -12,7 +12,7 @@ use Rattle.entry.proofs.is_within.Statement.{statement}
 use Rattle.entry.proofs.is_within.Tie as tie
 use Rattle.entry.proofs.is_within.Reads as reads
 use Rattle.entry.proofs.is_within.Lts as lts
-use Rattle.layout.proofs.in_range.Reads as in-range-reads
+use Rattle.ranges.proofs.in_range.Reads as in-range-reads
 
 -- src/lib.rt:61:22
 enum-known-v : tie.Need-enum-known-v

@@ -3,7 +3,7 @@ use Rattle.spelling.specs.declared.Value.the-variants as value
 use lib.IntN.{ℤ}
 use Rattle.judging.proofs.Steps.{value-missing, value-absent, value-within, value-outside}
 use Rattle.judging.specs.Fields.{valueOf, textLast}
-use Rattle.layout.specs.Layouts.{inRange}
+use Rattle.ranges.specs.Ranges.{inRange}
 use mir.ValLaws.{toZ-ofZ}
 use mir.Syntax.{w64}
 use denote.Ref.{now}
@@ -14,7 +14,7 @@ use Rattle.judging.proofs.value_of.Statement.{statement}
 use Rattle.judging.proofs.value_of.Tie as tie
 use Rattle.judging.proofs.value_of.Reads as reads
 use Rattle.judging.proofs.value_of.Lts as lts
-use Rattle.layout.proofs.in_range.Reads as in-range-reads
+use Rattle.ranges.proofs.in_range.Reads as in-range-reads
 
 -- src/lib.rt:214:16
 enum-told : tie.Need-enum-told

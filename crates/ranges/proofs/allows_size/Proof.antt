@@ -1,7 +1,7 @@
 -- `layout::allows_size` meets its contract: the range's case picks the test of the number.
 use borrow.Author.Needs.{needs}
-use Rattle.layout.proofs.allows_size.Statement.{statement}
-use Rattle.layout.proofs.allows_size.Tie as tie
+use Rattle.ranges.proofs.allows_size.Statement.{statement}
+use Rattle.ranges.proofs.allows_size.Tie as tie
 
 enum-told : tie.Need-enum-told
 enum-told c = search needs

@@ -1,9 +1,9 @@
 -- `layout::in_range` meets its contract: below zero only an open range holds, from zero up the range's own test.
 use mathlib.Core.Path.{_∙_}
-use Rattle.layout.proofs.Signs.{below-zero, from-zero, size-fits}
+use Rattle.ranges.proofs.Signs.{below-zero, from-zero, size-fits}
 use borrow.Author.Needs.{needs}
-use Rattle.layout.proofs.in_range.Statement.{statement}
-use Rattle.layout.proofs.in_range.Tie as tie
+use Rattle.ranges.proofs.in_range.Statement.{statement}
+use Rattle.ranges.proofs.in_range.Tie as tie
 
 is-any-requires : tie.Need-is-any-requires
 is-any-requires c κs = search needs

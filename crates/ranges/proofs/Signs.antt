@@ -10,8 +10,9 @@ use lib.Signed.{ltZ, nonNeg}
 use mir.Syntax.{w64}
 use mir.Val.{Fits, SFits, toZ, ofZ}
 use mir.ValLaws.{toZ-ofZ}
 use Rattle.layout.specs.declared.Range.{Range}
-use Rattle.layout.specs.Layouts.{allows, isAny, inRange}
+use Rattle.ranges.specs.Ranges.{allows, inRange}
+use Rattle.layout.specs.Layouts.{isAny}
 
 below : (r : Range) (z : ℤ) → ltZ z (pos 0) ≡ true → isAny r ≡ inRange r z
 unfolding inRange
