@@ -21,6 +21,12 @@ enum Known {
     Not,
 }
 
+// A field number and a form, or what is none.
+enum Asked {
+    Is(usize, usize),
+    Not,
+}
+
 // The size of a card of which some columns were set, the rest being blank.
 fn padded(set: Count, columns: &[u8]) -> Count
     ensures { λ r. ⌜ numberOf r ≤ length (now (columns .entry)) ⌝ }
@@ -98,46 +104,41 @@ fn push_verdict(out: &mut [u8], n: usize, v: Verdict) -> usize {
     }
 }
 
+// The field number and the form that a command begins with.
+fn asked_in(args: &[u8]) -> Asked {
+    let Count::Is(number) = script::count_in(script::word(args)) else {
+        return Asked::Not;
+    };
+    let Count::Is(form) = script::count_in(script::word(script::next(args))) else {
+        return Asked::Not;
+    };
+    Asked::Is(number as usize, form as usize)
+}
+
 // field N FORM card
 pub fn read(args: &[u8], out: &mut [u8], n: usize) -> usize {
-    let rest = script::next(args);
-    let Count::Is(number) = script::count_in(script::word(args)) else {
-        return page::push_unknown(out, n);
-    };
-    let Count::Is(form) = script::count_in(script::word(rest)) else {
+    let Asked::Is(number, form) = asked_in(args) else {
         return page::push_unknown(out, n);
     };
     let mut columns = [b' '; 128];
-    let Count::Is(size) = card_in(script::next(rest), &mut columns) else {
+    let Count::Is(size) = card_in(script::next(script::next(args)), &mut columns) else {
         return page::push_unknown(out, n);
     };
     let card = script::front(&columns, size as usize);
-    push_read(
-        out,
-        n,
-        field::read_field(card, number as usize, form as usize),
-    )
+    push_read(out, n, field::read_field(card, number, form))
 }
 
 // text N FORM card
 pub fn text(args: &[u8], out: &mut [u8], n: usize) -> usize {
-    let rest = script::next(args);
-    let Count::Is(number) = script::count_in(script::word(args)) else {
-        return page::push_unknown(out, n);
-    };
-    let Count::Is(form) = script::count_in(script::word(rest)) else {
+    let Asked::Is(number, form) = asked_in(args) else {
         return page::push_unknown(out, n);
     };
     let mut columns = [b' '; 128];
-    let Count::Is(size) = card_in(script::next(rest), &mut columns) else {
+    let Count::Is(size) = card_in(script::next(script::next(args)), &mut columns) else {
         return page::push_unknown(out, n);
     };
     let card = script::front(&columns, size as usize);
-    page::push_columns(
-        out,
-        n,
-        field::read_text(card, number as usize, form as usize),
-    )
+    page::push_columns(out, n, field::read_text(card, number, form))
 }
 
 // Opens the first columns as a card.
@@ -173,8 +174,8 @@ pub fn open(args: &[u8], out: &mut [u8], n: usize) -> usize {
 fn enter_value(
     columns: &mut [u8],
     size: usize,
-    number: u64,
-    form: u64,
+    number: usize,
+    form: usize,
     v: Value,
     out: &mut [u8],
     n: usize,
@@ -182,19 +183,15 @@ fn enter_value(
     if columns.len() < size {
         return page::push_unknown(out, n);
     }
-    let came = entry::put(&mut columns[..size], number as usize, form as usize, v);
+    let came = entry::put(&mut columns[..size], number, form, v);
     let told = push_entered(out, n, came);
     push_card(out, told, script::front(columns, size))
 }
 
 // put N FORM value card
 pub fn put(args: &[u8], out: &mut [u8], n: usize) -> usize {
-    let rest = script::next(args);
-    let offer = script::next(rest);
-    let Count::Is(number) = script::count_in(script::word(args)) else {
-        return page::push_unknown(out, n);
-    };
-    let Count::Is(form) = script::count_in(script::word(rest)) else {
+    let offer = script::next(script::next(args));
+    let Asked::Is(number, form) = asked_in(args) else {
         return page::push_unknown(out, n);
     };
     let Offer::Is(v) = values::value_in(script::before_bar(offer)) else {
@@ -211,8 +208,8 @@ pub fn put(args: &[u8], out: &mut [u8], n: usize) -> usize {
 fn enter_text(
     columns: &mut [u8],
     size: usize,
-    number: u64,
-    form: u64,
+    number: usize,
+    form: usize,
     text: &[u8],
     out: &mut [u8],
     n: usize,
@@ -220,19 +217,15 @@ fn enter_text(
     if columns.len() < size {
         return page::push_unknown(out, n);
     }
-    let came = entry::put_text(&mut columns[..size], number as usize, form as usize, text);
+    let came = entry::put_text(&mut columns[..size], number, form, text);
     let told = push_entered(out, n, came);
     push_card(out, told, script::front(columns, size))
 }
 
 // puttext N FORM |text| card
 pub fn put_text(args: &[u8], out: &mut [u8], n: usize) -> usize {
-    let rest = script::next(args);
-    let offer = script::next(rest);
-    let Count::Is(number) = script::count_in(script::word(args)) else {
-        return page::push_unknown(out, n);
-    };
-    let Count::Is(form) = script::count_in(script::word(rest)) else {
+    let offer = script::next(script::next(args));
+    let Asked::Is(number, form) = asked_in(args) else {
         return page::push_unknown(out, n);
     };
     let mut text = [0u8; 128];
