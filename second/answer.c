@@ -1,4 +1,4 @@
-// Answers a script of commands on cards, one on each line of standard input, as the program cardvectors does.
+// Answers a script of commands, one on each line of standard input, as the programs cardvectors and headervectors do.
 //
 // field N FORM card          what stands in field N
 // text N FORM card           its text
@@ -6,13 +6,15 @@
 // put N FORM value card      the card with a value put into field N
 // puttext N FORM |text| card the card with a text put into field N
 // judge FORM card            the card's first offence by itself, FORM being 0, 1 or ?
-#include "card.h"
+// keep N                     a header of the first N cards, or of all; what the check says of it
+// add N card                 a header with a card, or any columns, put behind it N times; the same
+#include "header.h"
 
 #include <stdio.h>
 #include <stdlib.h>
 #include <string.h>
 
-enum { LINE_SIZE = 4096, COLUMNS = 128 };
+enum { LINE_SIZE = 4096, COLUMNS = 128, HEADER_SIZE = 65536 };
 
 // A part of a line.
 struct part {
@@ -280,6 +282,43 @@ static int judge_command(struct part args)
     return 1;
 }
 
+static uint8_t header[HEADER_SIZE];
+static size_t header_size;
+
+static void say_checked(void)
+{
+    struct refusal r = check_header(header, header_size);
+    if (r.number)
+        say_refused(r);
+    else
+        printf("accepted");
+}
+
+static int keep_command(struct part args)
+{
+    uint64_t cards;
+    if (!number_in(args, &cards))
+        return 0;
+    if (cards <= header_size / CARD_SIZE)
+        header_size = (size_t)cards * CARD_SIZE;
+    say_checked();
+    return 1;
+}
+
+static int add_command(struct part args)
+{
+    uint64_t times;
+    struct bytes card;
+    if (!number_in(word(args), &times) || !card_in(next(args), &card))
+        return 0;
+    for (; times && card.size <= HEADER_SIZE - header_size; times--) {
+        memcpy(header + header_size, card.at, card.size);
+        header_size += card.size;
+    }
+    say_checked();
+    return 1;
+}
+
 static int answer(struct part line)
 {
     struct part name = word(line), args = next(line);
@@ -295,6 +334,10 @@ static int answer(struct part line)
         return puttext_command(args);
     if (is(name, "judge"))
         return judge_command(args);
+    if (is(name, "keep"))
+        return keep_command(args);
+    if (is(name, "add"))
+        return add_command(args);
     return 0;
 }
 

@@ -1,10 +1,12 @@
-// Makes a script of random and damaged cases for answer.c and cardvectors.
+// Makes a script of random and damaged cases for answer.c, cardvectors and headervectors.
 //
-// generate codes                 prints a script that reads the first field of every H code
-// generate SEED COUNT            prints a script of COUNT cases
-// generate SEED COUNT histogram  prints how often each operation came to each end instead, and fails if a refusal of an
-//                                operation, a field of a code or a passed code was never reached
-#include "card.h"
+// generate codes                         prints a script that reads the first field of every H code
+// generate SEED COUNT                    prints a script of COUNT cases on cards
+// generate SEED COUNT histogram          prints how often each operation came to each end instead, and fails if a
+//                                        refusal of an operation, a field of a code or a passed code was never reached
+// generate headers SEED COUNT            prints a script that makes COUNT headers
+// generate headers SEED COUNT histogram  prints how often each refusal came instead, and fails if one never did
+#include "header.h"
 
 #include <stdio.h>
 #include <stdlib.h>
@@ -747,6 +749,237 @@ static void histogram(void)
     }
 }
 
+// Headers: good ones, then damaged.
+
+// The places in `layouts` of the codes that state a form or take one.
+enum { LINE = 8, WAYPOINTS = 9, COMMENT = 10, GRID = 12, VARIATION = 13, ROOM = 40 };
+
+// A header: its cards, the last one said `more` times more, and `spare` bytes of a card behind them.
+struct made {
+    uint8_t at[ROOM][CARD_SIZE];
+    unsigned count, more, spare;
+};
+
+static uint64_t form_in(const uint8_t *card, unsigned column)
+{
+    return card[column - 1] == '1';
+}
+
+// The opening block: one to three vessels, mostly different, and waypoints, mostly theirs.
+static void good_opening(struct made *h)
+{
+    unsigned lines = 1 + (percent(50) ? below(3) : 0), first = below(10);
+    for (int l = 0; l < LINE; l++)
+        good_card(h->at[h->count++], l, 0);
+    for (unsigned i = 0; i < lines; i++) {
+        good_card(h->at[h->count], LINE, 0);
+        h->at[h->count++][29] = (uint8_t)('0' + (percent(15) ? first : first + i) % 10);
+    }
+    for (unsigned k = percent(70) ? below(6) : 0; k; k--) {
+        const uint8_t *line = h->at[LINE + below(lines)];
+        good_card(h->at[h->count], WAYPOINTS, form_in(line, 32));
+        h->at[h->count++][6] = percent(90) ? line[29] : one_of("0123456789");
+    }
+}
+
+// The rest: mostly at most one grid, its points before or behind it, and whatever else is read or passed.
+static void good_rest(struct made *h, unsigned cards)
+{
+    unsigned form = below(2), grids = 0;
+    struct test t;
+    for (; cards; cards--) {
+        uint8_t *card = h->at[h->count++];
+        int layout = percent(25) ? VARIATION : percent(15) ? GRID : COMMENT + (int)below(percent(20) ? 2 : LAYOUTS - COMMENT);
+        if (layout == GRID && grids++ > 0 && percent(80))
+            layout = VARIATION;
+        good_card(card, layout, form);
+        if (layout == GRID)
+            card[20] = (uint8_t)('0' + form);
+        if (percent(15)) {
+            other_card(&t, passed[below(PASSED)]);
+            memcpy(card, t.card.at, CARD_SIZE);
+        }
+    }
+}
+
+static int layout_at(const struct made *h, unsigned i)
+{
+    int code = code_of(h->at[i]);
+    return code >= 0 ? code : -1;
+}
+
+// A card of a layout, from a place found by chance on; the one at that place where there is none behind it.
+static uint8_t *some_card(struct made *h, int layout)
+{
+    unsigned from = below(h->count);
+    for (unsigned i = from; i < h->count; i++)
+        if (layout_at(h, i) == layout)
+            return h->at[i];
+    return h->at[from];
+}
+
+static void drop_card(struct made *h, unsigned i)
+{
+    memmove(h->at[i], h->at[i + 1], (size_t)(h->count - i - 1) * CARD_SIZE);
+    h->count--;
+}
+
+static void insert_card(struct made *h, unsigned i, const uint8_t *card)
+{
+    uint8_t kept[CARD_SIZE];
+    memcpy(kept, card, CARD_SIZE);
+    memmove(h->at[i + 1], h->at[i], (size_t)(h->count - i) * CARD_SIZE);
+    memcpy(h->at[i], kept, CARD_SIZE);
+    h->count++;
+}
+
+static void swap_cards(struct made *h, unsigned i, unsigned j)
+{
+    uint8_t kept[CARD_SIZE];
+    memcpy(kept, h->at[i], CARD_SIZE);
+    memcpy(h->at[i], h->at[j], CARD_SIZE);
+    memcpy(h->at[j], kept, CARD_SIZE);
+}
+
+// Another code for a card: unknown, or of another card.
+static void change_code(uint8_t *card)
+{
+    unsigned n = below(LAYOUTS + PASSED), at = 1 + below(CODE_SIZE - 1);
+    if (percent(30))
+        any_unknown(card);
+    else if (percent(50))
+        card[at] = one_of("0123456789");
+    else
+        concrete(n < LAYOUTS ? layouts[n].code : passed[n - LAYOUTS], card);
+}
+
+// Coordinates of another form, badly formed, or in a second set of which nothing else stands there.
+static void change_coordinates(struct made *h)
+{
+    int code = percent(60) ? WAYPOINTS : percent(70) ? VARIATION : LINE;
+    uint8_t *card = some_card(h, code);
+    const struct layout *l = &layouts[code];
+    unsigned k = below(l->count);
+    for (; l->fields[k].spelling != SPELL_Y && l->fields[k].spelling != SPELL_X; k = (k + 1) % l->count)
+        ;
+    if (percent(30))
+        edge_angle(card + l->fields[k].first - 1, l->fields[k].spelling);
+    else if (percent(50))
+        good_columns(card, &l->fields[k], below(2));
+    else
+        bad_columns(card, &l->fields[k], below(2));
+    if (l->second && k + 1 > l->second && percent(30))
+        blank_field(card, &l->fields[l->second - 1]);
+}
+
+static void damage_header(struct made *h)
+{
+    unsigned i = below(h->count), j = below(h->count), k = below(CARD_SIZE), layout = percent(70) ? LINE : GRID;
+    switch (below(18)) {
+    case 0: swap_cards(h, i, j); break;
+    case 1: swap_cards(h, i, (i + 1) % h->count); break;
+    case 2: drop_card(h, i); break;
+    case 3: insert_card(h, i, h->at[i]); break;
+    case 4: insert_card(h, i, h->at[j]); break;
+    case 5: insert_card(h, i, some_card(h, percent(70) ? LINE : GRID)); break;
+    case 6: h->at[i][k] = percent(60) ? any_printable() : any_unprintable(); break;
+    case 7: change_code(h->at[i]); break;
+    case 8: some_card(h, LINE)[29] = percent(90) ? one_of("0123456789") : any_printable(); break;
+    case 9: some_card(h, WAYPOINTS)[6] = percent(90) ? one_of("0123456789") : any_printable(); break;
+    case 10: some_card(h, (int)layout)[layout == LINE ? 31 : 20] = percent(70) ? one_of("01") : any_printable(); break;
+    case 11:
+    case 12:
+    case 13: change_coordinates(h); break;
+    default: damage(h->at[i], layout_at(h, i), below(2));
+    }
+}
+
+static void make_header(struct made *h)
+{
+    memset(h, 0, sizeof *h);
+    good_opening(h);
+    good_rest(h, below(30 - h->count + 1));
+    for (unsigned k = percent(85) ? 1 + below(3) : 0; k && h->count > 0; k--)
+        damage_header(h);
+    if (percent(5))
+        h->count = below(h->count + 1);
+    if (percent(2) && h->count > 0)
+        h->more = MOST_CARDS - 2 - h->count + below(4);
+    if (percent(4))
+        h->spare = 1 + below(CARD_SIZE);
+}
+
+static void print_header(const struct made *h)
+{
+    struct bytes b;
+    printf("keep 0\n");
+    for (unsigned i = 0; i < h->count; i++) {
+        b.size = CARD_SIZE;
+        memcpy(b.at, h->at[i], CARD_SIZE);
+        printf("add %u ", 1 + (i + 1 == h->count ? h->more : 0));
+        print_card(&b);
+        putchar('\n');
+    }
+    b.size = h->spare;
+    memset(b.at, 'x', h->spare);
+    printf("add 1 ");
+    print_bytes(&b);
+    putchar('\n');
+}
+
+// How often each refusal came; a 6 apart where cards are missing, 9 and 10 apart in coordinates whose form stands elsewhere.
+static unsigned refusals[NUMBERS], missed, borrowed[LAYOUTS][NUMBERS];
+
+static void count_header(const struct made *h)
+{
+    static uint8_t bytes[(ROOM + 1000) * CARD_SIZE];
+    size_t cards = h->count;
+    memcpy(bytes, h->at, cards * CARD_SIZE);
+    for (unsigned k = h->more; k; k--, cards++)
+        memcpy(bytes + cards * CARD_SIZE, h->at[h->count - 1], CARD_SIZE);
+    memset(bytes + cards * CARD_SIZE, 'x', h->spare);
+    struct refusal r = check_header(bytes, cards * CARD_SIZE + h->spare);
+    refusals[r.number]++;
+    if (r.number == 6 && r.card > cards)
+        missed++;
+    int code = r.card > 0 && r.card <= h->count ? layout_at(h, r.card - 1) : -1;
+    for (unsigned k = 0; code >= 0 && k < layouts[code].count; k++)
+        if (layouts[code].fields[k].first == r.column && layouts[code].fields[k].spelling >= SPELL_Y)
+            borrowed[code][r.number]++;
+}
+
+static void header_histogram(void)
+{
+    printf("headers: accepted %u, cards missing %u; refused", refusals[0], missed);
+    for (int n = 1; n < NUMBERS; n++)
+        printf(" %d %u", n, refusals[n]);
+    printf("; by a form that stands elsewhere: H00@9 9 %u, 10 %u; H0101 9 %u, 10 %u\n", borrowed[WAYPOINTS][9],
+           borrowed[WAYPOINTS][10], borrowed[VARIATION][9], borrowed[VARIATION][10]);
+    for (int n = 0; n <= 11; n++)
+        demand(refusals[n], "header", n, 0);
+    demand(missed, "header", 6, 1);
+    for (int n = 9; n <= 10; n++) {
+        demand(borrowed[WAYPOINTS][n], "H00@9", n, 0);
+        demand(borrowed[VARIATION][n], "H0101", n, 0);
+    }
+}
+
+static int headers(const char *seed, const char *count, int counting)
+{
+    state = strtoull(seed, NULL, 10);
+    for (unsigned long long i = strtoull(count, NULL, 10); i; i--) {
+        static struct made h;
+        make_header(&h);
+        if (counting)
+            count_header(&h);
+        else
+            print_header(&h);
+    }
+    if (counting)
+        header_histogram();
+    return missing;
+}
+
 static int every_code(void)
 {
     for (unsigned n = 0; n < 10000; n++)
@@ -754,30 +987,37 @@ static int every_code(void)
     return EXIT_SUCCESS;
 }
 
-int main(int argc, char **argv)
+static int cases(const char *seed, const char *wanted, int counting)
 {
-    if (argc == 2 && strcmp(argv[1], "codes") == 0)
-        return every_code();
     static unsigned turns[OPERATIONS];
     static const enum operation share[20] = {OP_FIELD, OP_FIELD, OP_FIELD, OP_FIELD, OP_FIELD,   OP_FIELD,   OP_TEXT,
                                              OP_OPEN,  OP_OPEN,  OP_PUT,   OP_PUT,   OP_PUT,     OP_PUT,     OP_PUT,
                                              OP_PUTTEXT, OP_PUTTEXT, OP_JUDGE, OP_JUDGE, OP_JUDGE, OP_JUDGE};
-    if (argc < 3 || argc > 4 || (argc == 4 && strcmp(argv[3], "histogram") != 0)) {
-        fprintf(stderr, "usage: generate codes | generate SEED COUNT [histogram]\n");
-        return 2;
-    }
-    state = strtoull(argv[1], NULL, 10);
-    unsigned long long cases = strtoull(argv[2], NULL, 10);
-    for (unsigned long long i = 0; i < cases; i++) {
+    state = strtoull(seed, NULL, 10);
+    for (unsigned long long i = strtoull(wanted, NULL, 10); i; i--) {
         struct test t;
         enum operation op = share[below(20)];
         make(&t, op, turns[op]++);
-        if (argc == 4)
+        if (counting)
             count(&t);
         else
             print(&t);
     }
-    if (argc == 4)
+    if (counting)
         histogram();
     return missing;
+}
+
+int main(int argc, char **argv)
+{
+    if (argc == 2 && strcmp(argv[1], "codes") == 0)
+        return every_code();
+    int of_headers = argc > 1 && strcmp(argv[1], "headers") == 0;
+    char **args = argv + 1 + of_headers;
+    int left = argc - 1 - of_headers;
+    if (left < 2 || left > 3 || (left == 3 && strcmp(args[2], "histogram") != 0)) {
+        fprintf(stderr, "usage: generate codes | generate [headers] SEED COUNT [histogram]\n");
+        return 2;
+    }
+    return of_headers ? headers(args[0], args[1], left == 3) : cases(args[0], args[1], left == 3);
 }
