@@ -1,0 +1,4 @@
+-- Laws of the keys that stand on cards.
+pub mod Found
+pub mod Told
+pub mod Marks

@@ -1,0 +1,1 @@
+// Laws only: what the numbers of the keys on printable cards tell.

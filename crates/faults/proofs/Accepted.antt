@@ -1,0 +1,45 @@
+-- An accepted header has few enough cards, and they are printable.
+use Prim.Native.Nat.{ℕ, _*_, _≤_, _<_}
+use native.Mathlib.Nat.{mul-comm}
+use native.Mathlib.Omega.{arith}
+use mathlib.Core.Path.{_≡_}
+use mathlib.Core.Bool.{true}
+use mathlib.Core.List.{List}
+use lib.ListN.{length}
+use Rattle.lists.proofs.Parting.{part-length}
+use Rattle.text.specs.Texts.{printable}
+use Rattle.forms.specs.Cards.{cardAt, cardsIn}
+use Rattle.forms.proofs.Steps.{card-ends}
+use Rattle.entry.proofs.Bytes.{bad-none}
+use Rattle.header.specs.declared.Checked.the-variants.{Accepted}
+use Rattle.header.specs.Refusing.{refusalOf}
+use Rattle.header_laws.proofs.Rows.{fine-exactly}
+use Rattle.header_laws.proofs.Exactly.{accepted-exactly}
+use Rattle.gathering.specs.Numbers.{pointsTo}
+use Rattle.gathering.specs.Gathered.{Gathered, Counted}
+use Rattle.faults.specs.Ready.{Ready}
+
+module _ (h : List ℕ) (accepted : refusalOf h ≡ Accepted) where
+  pub few-cards : cardsIn h ≤ 800
+  few-cards = accepted-exactly h .0 accepted .0 .few
+
+  eighty : (c : ℕ) → c < cardsIn h → length (cardAt h c) ≡ 80
+  unfolding cardAt cardsIn
+  eighty c l = part-length 80 h c (omega (arith, card-ends h c l, mul-comm c 80))
+
+  printed : (c : ℕ) → c < cardsIn h → printable (cardAt h c) ≡ true
+  printed c l =
+      let fine = accepted-exactly h .0 accepted .1 c (omega arith) in
+      let clean = fine-exactly h c l .0 fine in
+      bad-none (cardAt h c) (omega (arith, clean .printable, eighty c l))
+
+  pub ready : (numbers tags : List ℕ) (n : ℕ) (heads next waypoints : List ℕ) (points : ℕ)
+      → Gathered h (80 * cardsIn h) numbers tags n heads next → Counted numbers n waypoints → points ≡ pointsTo h (cardsIn h)
+      → Ready h numbers tags n heads next waypoints points
+  ready numbers tags n heads next waypoints points g k e = record {
+    few = few-cards;
+    printed = printed;
+    gathered = g;
+    counted = k;
+    points-are = e;
+  }

@@ -1,0 +1,48 @@
+-- One column more, one card more.
+use Prim.Native.Nat.{ℕ, zero, suc, _+_, _*_, _-_, _≤_, _<_}
+use native.Mathlib.Nat.{add-zero}
+use native.Mathlib.Numerals.{add-one}
+use native.Mathlib.Omega.{arith}
+use mathlib.Core.Path.{_≡_, refl, sym, ap, _∙_}
+use mathlib.Core.List.{List, [], _∷_, _++_, flatMap, List·Memᴰ, List·Memᴰ·head, List·Memᴰ·tail}
+use lib.ListN.{length, getD, length-append}
+use Rattle.lists.specs.Parts.{kept, upTo}
+use Rattle.lists.proofs.Keeping.{out-of-kept, out-of-upTo}
+use Rattle.lists.proofs.Entries.{entries-more}
+use Rattle.forms.specs.Cards.{cardAt, layoutOf}
+use Rattle.tying.specs.Columns.{canTie, tieColumns}
+use Rattle.faults.specs.declared.Broken.{Broken}
+use Rattle.faults.specs.Stored.{storedAll, entriesFor}
+use Rattle.faults.specs.Listed.{slotEntries, cardEntries, brokenFor}
+use Rattle.faults.proofs.Stored.{stored-append}
+use Rattle.faults.proofs.Rows.{of-column}
+
+-- entries more, of whatever they are
+pub run-more : (g : ℕ → List (List ℕ)) (l₀ l l′ : List ℕ) (found m r i : ℕ)
+    → l ≡ storedAll l₀ found (flatMap g (upTo i)) → m ≡ found + length (flatMap g (upTo i))
+    → l′ ≡ storedAll l m (g i) → r ≡ m + length (g i)
+    → (l′ ≡ storedAll l₀ found (flatMap g (upTo (i + 1)))) × (r ≡ found + length (flatMap g (upTo (i + 1))))
+unfolding upTo
+run-more g l₀ l l′ found m r i a b d e =
+    let w = flatMap g (upTo i) in
+    let more : flatMap g (upTo (i + 1)) ≡ w ++ g i = ap (λ j. flatMap g (upTo j)) (add-one i) ∙ entries-more g (upTo i) i in (
+      d ∙ rw (a, b) (stored-append w (g i) l₀ found) ∙ ap (storedAll l₀ found) (sym more),
+      omega (arith, ap length more, length-append w (g i)),
+    )
+
+-- what a column gives
+pub slot-gives : (h : List ℕ) (c slot column : ℕ) (b : Broken) → column ≡ getD (tieColumns (layoutOf (cardAt h c))) slot 0
+    → b ≡ brokenFor h (cardAt h c) column → entriesFor b (c + 1) column ≡ slotEntries h c slot
+unfolding slotEntries
+slot-gives h c slot column b e q = rw (q, ← e) (of-column h c column)
+
+members-below : (l : List ℕ) (n i : ℕ) → 0 < n → ((x : ℕ) → List·Memᴰ x l → x < n) → getD l i 0 < n
+members-below [] n i z f = z
+members-below (x ∷ l) n zero z f = f x (List·Memᴰ·head refl)
+members-below (x ∷ l) n (suc i) z f = members-below l n i z (λ y m. f y (List·Memᴰ·tail m))
+
+pub column-below : (k slot : ℕ) → getD (tieColumns k) slot 0 < 81
+unfolding tieColumns
+column-below k slot =
+    members-below (kept (canTie k) (upTo 81)) 81 slot (omega arith)
+    (λ x m. out-of-upTo 81 x (out-of-kept (canTie k) (upTo 81) m .0))

@@ -1,0 +1,5 @@
+pub mod Stored
+pub mod Listed
+pub mod Asked
+pub mod Ready
+pub mod Answer

@@ -1,0 +1,36 @@
+-- The entries of a header in the order in which its cards are walked: card, column that can carry a tie, kind.
+use Prim.Native.Nat.{ℕ, _+_}
+use mathlib.Core.List.{List, [], _∷_, map, flatMap}
+use lib.ListN.{getD}
+use Rattle.lists.specs.Parts.{kept, upTo}
+use Rattle.forms.specs.Cards.{cardAt, cardsIn, layoutOf}
+use Rattle.tying.specs.Columns.{tieColumns}
+use Rattle.ties.specs.Faults.{broken}
+use Rattle.ties.specs.Faults as kind
+use Rattle.faults.specs.declared.Broken.{Broken}
+
+-- of a column of the card with a number, from 0
+unfoldable pub columnEntries : List ℕ → ℕ → ℕ → List (List ℕ)
+columnEntries h c column = map (λ i. (c + 1) ∷ column ∷ (i + 1) ∷ []) (kept (λ i. broken h c column (i + 1)) (upTo 5))
+
+-- of one of the columns that can carry a tie, by its number from 0
+unfoldable pub slotEntries : List ℕ → ℕ → ℕ → List (List ℕ)
+slotEntries h c slot = columnEntries h c (getD (tieColumns (layoutOf (cardAt h c))) slot 0)
+
+-- of the card
+unfoldable pub cardEntries : List ℕ → ℕ → List (List ℕ)
+cardEntries h c = flatMap (slotEntries h c) (upTo 5)
+
+-- of the first cards
+unfoldable pub entriesTo : List ℕ → ℕ → List (List ℕ)
+entriesTo h n = flatMap (cardEntries h) (upTo n)
+
+-- which kinds of fault a column of a card of the header has
+unfoldable pub brokenFor : List ℕ → List ℕ → ℕ → Broken
+brokenFor h s column = record {
+  undefined = kind.undefined h s column;
+  redefined = kind.redefined h s column;
+  ambiguous = kind.ambiguous h s column;
+  contradicted = kind.contradicted h s column;
+  miscounted = kind.miscounted h s column;
+}

@@ -1,0 +1,4 @@
+-- Laws of gathering.
+pub mod Slots
+pub mod Growing
+pub mod Counting

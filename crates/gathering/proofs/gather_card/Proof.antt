@@ -1,0 +1,92 @@
+-- `gathering::gather_card` meets its contract.
+use Prim.Native.Nat.{_+_, _-_, _≤_, _<_}
+use mathlib.Core.Path.{_≡_, ap, _∙_}
+use lib.ListN.{getD}
+use Rattle.tying.specs.Columns.{tieColumns}
+use Rattle.tally.specs.Chains.{room}
+use denote.Ref.{now}
+use native.Mathlib.Omega.{arith}
+use borrow.Author.Needs.{needs}
+use Rattle.gathering.specs.Gathered.{onSlots, Grown}
+use Rattle.gathering.proofs.Growing.{no-slots, slot-more, all-slots}
+use Rattle.gathering.proofs.gather_card.Statement.{statement}
+use Rattle.gathering.proofs.gather_card.Tie as tie
+use Rattle.gathering.proofs.gather_card.Reads as reads
+use Rattle.gathering.proofs.gather_card.Lts as lts
+use Rattle.forms.proofs.layout_of.Reads as layout-of-reads
+use Rattle.gathering.proofs.gather_column.Reads as gather-column-reads
+use Rattle.tying.proofs.tie_column.Reads as tie-column-reads
+
+abbrev Inv-loop : tie.InvT-loop
+Inv-loop numbers₀ tags₀ heads₀ next₀ n card layout m₀ slot₀ numbers tags heads next m slot =
+    (slot ≤ 5) × (m ≤ n + slot) × Grown (onSlots card slot) numbers₀ tags₀ n numbers tags m heads next
+
+abbrev μ-loop : tie.MeasureT-loop
+μ-loop numbers₀ tags₀ heads₀ next₀ n card layout m₀ slot₀ numbers tags heads next m slot = 5 - slot
+
+-- src/lib.rt:71:9
+layout-of-requires : tie.Need-layout-of-requires Inv-loop μ-loop
+layout-of-requires c κs = search needs
+
+-- src/lib.rt:74:5
+loop-holds : tie.Need-loop-holds Inv-loop μ-loop
+loop-holds c =
+    let s = c .before .before in
+    (omega arith, omega arith, no-slots _ _ _ _ _ _ (s .pre .1 .1) (s .pre .1 .0))
+
+-- src/lib.rt:75:13
+tie-column-requires : tie.Need-tie-column-requires Inv-loop μ-loop
+tie-column-requires c κs = search needs
+
+-- src/lib.rt:76:9
+gather-column-requires : tie.Need-gather-column-requires Inv-loop μ-loop
+gather-column-requires c κs =
+    let b = c .before .before .before .before .before .before in
+    let l = b .before in
+    let below : b .loop .m < room = omega (arith, b .loop .inv .1, l .before .before .pre .0) in
+    (l .layout-of .ensures, (below, (b .loop .inv .2 .tags-room, b .loop .inv .2 .linked)))
+
+-- src/lib.rt:77:9
+add-slot : tie.Need-add-slot Inv-loop μ-loop
+add-slot c = search needs
+
+-- src/lib.rt:74:5
+loop-less : tie.Need-loop-less Inv-loop μ-loop
+loop-less c = search needs
+
+-- src/lib.rt:74:5
+loop-again : tie.Need-loop-again Inv-loop μ-loop
+loop-again c =
+    let t = c .before .before .before .before .before in
+    let b = t .before .before .loop in
+    let l = t .before .before .before in
+    let s = now (l .before .before .args .card) in
+    let e = c .gather-column .ensures in
+    let q = t .tie-column .ensures ∙ ap (λ k. getD (tieColumns k) (b .slot) 0) (l .layout-of .ensures) in (
+      omega arith,
+      omega (arith, b .inv .1, e .0),
+      slot-more s _ _ _ _ _ _ _ _ _ _ (b .slot) _ _ _ _ q (b .inv .2) (e .1),
+    )
+
+-- src/lib.rt:56:1
+returns : tie.Need-returns Inv-loop μ-loop
+returns c =
+    let b = c .before .loop in
+    let s = c .before .before .before .before in
+    let q : b .slot ≡ 5 = omega (arith, b .inv .0) in
+    (omega (arith, b .inv .1), all-slots (now (s .args .card)) _ _ _ _ _ _ (b .slot) _ _ q (b .inv .2))
+
+pub gather-card-spec : {M : Type 1} → statement M
+gather-card-spec =
+    tie.close
+    (tie.spec
+    Inv-loop
+    μ-loop
+    layout-of-requires
+    loop-holds
+    tie-column-requires
+    gather-column-requires
+    add-slot
+    loop-less
+    loop-again
+    returns)

@@ -1,0 +1,180 @@
+// One pass over the cards of a header that gathers every definition in the tally.
+use tally::BUCKETS;
+use tally::ROOM;
+ghost use mathlib.Core.Path.{_≡_};
+ghost use Prim.Native.Nat.{_+_, _*_, _<_, _≤_};
+ghost use lib.ListN.{length, getD, set, replicate};
+ghost use Rattle.lists.specs.Count.{bit};
+ghost use Rattle.forms.specs.Cards.{cardsIn, layoutOf};
+ghost use Rattle.tally.specs.Chains.{room, buckets, Linked};
+ghost use Rattle.gathering.specs.Numbers.{tagOn, vesselIn, pointsTo};
+ghost use Rattle.gathering.specs.Gathered.{onColumn, onSlots, Grown, Gathered, Counted};
+
+// The columns of a card.
+const CARD: usize = 80;
+
+// The most columns of a card that can carry a tie.
+const SLOTS: usize = 5;
+
+// H0101 among the layouts.
+const H0101: usize = 13;
+
+// The numbers of waypoints begin here: seven times those of a class.
+const WAYPOINTS: u64 = 504403158265495552;
+
+// A count for each vessel, and one for all other numbers.
+pub const VESSELS: usize = 11;
+
+const OTHERS: usize = 10;
+
+// The vessel digit of a card.
+pub fn tag_of(card: &[u8], layout: usize) -> u8
+    requires { ⌜ layout ≡ layoutOf (now card) ⌝ }
+    ensures { λ r. ⌜ r ≡ tagOn (now (card .entry)) ⌝ }
+{
+    keys::vessel_of(card, layout) as u8
+}
+
+// The definition in a column of a card, if there is one.
+fn gather_column(
+    numbers: &mut [u64; ROOM],
+    tags: &mut [u8; ROOM],
+    heads: &mut [u16; BUCKETS],
+    next: &mut [u16; ROOM],
+    n: usize,
+    card: &[u8],
+    layout: usize,
+    column: usize,
+) -> usize
+    requires { ⌜ layout ≡ layoutOf (now card) ⌝ }
+    requires { ⌜ n < room ⌝ }
+    requires { ⌜ length (now tags) ≡ room ⌝ }
+    requires { ⌜ Linked (now numbers) n (now heads) (now next) ⌝ }
+    ensures few { λ r. ⌜ r ≤ n + 1 ⌝ }
+    ensures grown { λ r. ⌜ Grown (onColumn (now (card .entry)) column) (now (numbers .entry)) (now (tags .entry)) n
+        (now (numbers .exit)) (now (tags .exit)) r (now (heads .exit)) (now (next .exit)) ⌝ }
+{
+    let number = keys::defined_by(card, layout, column);
+    if number == 0 {
+        return n;
+    }
+    let tag = tag_of(card, layout);
+    tally::add(numbers, tags, heads, next, n, number, tag);
+    n + 1
+}
+
+// The definitions on a card.
+fn gather_card(
+    numbers: &mut [u64; ROOM],
+    tags: &mut [u8; ROOM],
+    heads: &mut [u16; BUCKETS],
+    next: &mut [u16; ROOM],
+    n: usize,
+    card: &[u8],
+) -> usize
+    requires { ⌜ n + 5 ≤ room ⌝ }
+    requires { ⌜ length (now tags) ≡ room ⌝ }
+    requires { ⌜ Linked (now numbers) n (now heads) (now next) ⌝ }
+    ensures few { λ r. ⌜ r ≤ n + 5 ⌝ }
+    ensures grown { λ r. ⌜ Grown (onSlots (now (card .entry)) 5) (now (numbers .entry)) (now (tags .entry)) n
+        (now (numbers .exit)) (now (tags .exit)) r (now (heads .exit)) (now (next .exit)) ⌝ }
+{
+    let layout = forms::layout_of(card);
+    let mut m = n;
+    let mut slot: usize = 0;
+    while slot < SLOTS {
+        let column = tying::tie_column(layout, slot);
+        m = gather_column(numbers, tags, heads, next, m, card, layout, column);
+        slot += 1;
+    }
+    m
+}
+
+// The definitions of a header, in arrays of zeros.
+pub fn gather(
+    header: &[u8],
+    numbers: &mut [u64; ROOM],
+    tags: &mut [u8; ROOM],
+    heads: &mut [u16; BUCKETS],
+    next: &mut [u16; ROOM],
+) -> usize
+    requires { ⌜ cardsIn (now header) ≤ 800 ⌝ }
+    requires { ⌜ now numbers ≡ replicate room 0 ⌝ }
+    requires { ⌜ now tags ≡ replicate room 0 ⌝ }
+    requires { ⌜ now heads ≡ replicate buckets 0 ⌝ }
+    requires { ⌜ now next ≡ replicate room 0 ⌝ }
+    ensures { λ r. ⌜ Gathered (now (header .entry)) (80 * cardsIn (now (header .entry))) (now (numbers .exit)) (now (tags .exit)) r
+        (now (heads .exit)) (now (next .exit)) ⌝ }
+{
+    let count = header.len() / CARD;
+    let mut n: usize = 0;
+    let mut place = 0;
+    while place < count {
+        let from = place * CARD;
+        let card = &header[from..from + CARD];
+        n = gather_card(numbers, tags, heads, next, n, card);
+        place += 1;
+    }
+    n
+}
+
+// The vessel of a number that is a waypoint's, 10 for any other number.
+fn vessel_in(number: u64) -> usize
+    ensures { λ r. ⌜ (r ≡ vesselIn number) × (r < 11) ⌝ }
+{
+    if number < WAYPOINTS {
+        return OTHERS;
+    }
+    if number >= WAYPOINTS + 10000 {
+        return OTHERS;
+    }
+    ((number - WAYPOINTS) / 1000) as usize
+}
+
+fn count_up(waypoints: &mut [usize; VESSELS], vessel: usize)
+    requires { ⌜ vessel < 11 ⌝ }
+    requires { ⌜ length (now waypoints) ≡ 11 ⌝ }
+    requires { ⌜ getD (now waypoints) vessel 0 < 10000 ⌝ }
+    ensures { λ _. ⌜ now (waypoints .exit) ≡ set (now (waypoints .entry)) vessel (getD (now (waypoints .entry)) vessel 0 + 1) ⌝ }
+{
+    waypoints[vessel] += 1;
+}
+
+// How many of n entries are waypoints of each vessel, in an array of zeros.
+pub fn count_waypoints(numbers: &[u64; ROOM], n: usize, waypoints: &mut [usize; VESSELS])
+    requires { ⌜ n ≤ room ⌝ }
+    requires { ⌜ now waypoints ≡ replicate 11 0 ⌝ }
+    ensures { λ _. ⌜ Counted (now (numbers .entry)) n (now (waypoints .exit)) ⌝ }
+{
+    let mut i: usize = 0;
+    while i < n {
+        count_up(waypoints, vessel_in(numbers[i]));
+        i += 1;
+    }
+}
+
+fn bit_of(b: bool) -> usize
+    ensures { λ r. ⌜ (r ≡ bit b) × (r ≤ 1) ⌝ }
+{
+    if b {
+        return 1;
+    }
+    0
+}
+
+// How many cards have a point of the variation grid.
+pub fn points_in(header: &[u8]) -> usize
+    ensures { λ r. ⌜ r ≡ pointsTo (now (header .entry)) (cardsIn (now (header .entry))) ⌝ }
+{
+    let count = header.len() / CARD;
+    let mut found: usize = 0;
+    let mut place = 0;
+    while place < count {
+        let from = place * CARD;
+        let card = &header[from..from + CARD];
+        let layout = forms::layout_of(card);
+        found += bit_of(layout == H0101);
+        place += 1;
+    }
+    found
+}

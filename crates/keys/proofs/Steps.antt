@@ -1,0 +1,206 @@
+-- What each way through the functions that read a card answers.
+use Prim.Native.Nat.{ℕ, zero, suc, _+_, _-_, _≤_, _<_}
+use native.Mathlib.Omega.{arith}
+use native.Mathlib.Numerals.{add-one}
+use mathlib.Core.Path.{_≡_, refl, sym, ap, _∙_}
+use mathlib.Core.List.{List, [], _∷_}
+use mathlib.Core.Bool.{Bool, true, false}
+use lib.Dec.{eqb}
+use lib.IntN.{ℤ, pos, negsuc, natAbs}
+use lib.ListN.{length, getD, take, drop, drop-of-length-le, length-drop}
+use lib.Seq.{take-nil, take-all}
+use mir.Syntax.{w64}
+use mir.Val.{SFits}
+use borrow.Author.Tests.{eqb-true}
+use Rattle.digits.proofs.Parts.{rest-part}
+use Rattle.signs.specs.Signs.{isMinus}
+use Rattle.text.specs.Texts.{textOf}
+use Rattle.number.specs.declared.Decimal.{Decimal as Figure}
+use Rattle.number.specs.declared.Number.{Number}
+use Rattle.number.specs.declared.Number.the-variants.{
+  Absent as NoNumber,
+  Held as Numeral,
+  Malformed as OddNumber,
+  OutOfRange as LargeNumber,
+}
+use Rattle.number.specs.Reading.{numberOf}
+use Rattle.spelling.specs.declared.Value.the-variants.{Absent, Whole, Decimal, Angle, Date, Text}
+use Rattle.spelling.specs.declared.Reading.{Reading}
+use Rattle.spelling.specs.declared.Reading.the-variants.{Held, Malformed, OutOfRange}
+use Rattle.spelling.specs.Reading.{wholeReading, readingOf}
+use Rattle.forms.specs.Cards.{byteIn}
+use Rattle.packing.specs.Packing.{isWhole, packed, wholeOffered}
+use Rattle.packing.proofs.Steps.{none-packed, offered-none, offered-whole}
+use Rattle.keys.specs.Roles.{hasVessel}
+use Rattle.keys.specs.Keys.{isNone, between, wholeKey, wholeIn, paired, keyIn}
+use Rattle.keys.specs.Lines.{meant, ofKind, vesselBy, marked}
+use Rattle.keys.specs.declared.Source.{Source}
+use Rattle.keys.specs.declared.Source.the-variants as held
+
+-- columns of a card, from being the one before the first
+module _ (s : List ℕ) (first last from : ℕ) (is : from ≡ first - 1) where
+  pub past-card : length s ≤ from → [] ≡ between first last s
+  unfolding between
+  past-card l = rw (← is, drop-of-length-le s l) (sym (take-nil (last - from)))
+
+  pub no-width : last ≤ from → [] ≡ between first last s
+  unfolding between
+  no-width l = let z : last - from ≡ 0 = omega arith in rw (← is, z)
+
+  pub to-end : length s ≤ last → take (length s - from) (drop from s) ≡ between first last s
+  unfolding between
+  to-end l = rw (← is) (rest-part from s ∙ sym (take-all (last - from) (drop from s) (omega (arith, length-drop from s))))
+
+  pub of-width : take (last - from) (drop from s) ≡ between first last s
+  unfolding between
+  of-width = rw (← is)
+
+-- the byte in a column
+pub byte-is : (s : List ℕ) (column from byte : ℕ) → from ≡ column - 1 → byte ≡ getD s from 0 → byte ≡ byteIn s column
+unfolding byteIn
+byte-is s column from byte is e = e ∙ ap (λ i. getD s i 0) is
+
+pub digit-none : (s : List ℕ) (column from byte : ℕ) → from ≡ column - 1 → byte ≡ getD s from 0 → byte < 48
+    → 0 ≡ byteIn s column - 48
+digit-none s column from byte is e l = omega (arith, byte-is s column from byte is e)
+
+pub digit-some : (s : List ℕ) (column from byte : ℕ) → from ≡ column - 1 → byte ≡ getD s from 0 → byte - 48 ≡ byteIn s column - 48
+digit-some s column from byte is e = omega (arith, byte-is s column from byte is e)
+
+pub vessel-digit : (k : ℕ) (s : List ℕ) (b : Bool) (n : ℕ) → b ≡ hasVessel k → b ≡ true → n ≡ byteIn s 4 - 48 → n ≡ vesselBy k s
+unfolding vesselBy
+vessel-digit k s b n e q h = rw (← e, q) h
+
+pub vessel-none : (k : ℕ) (s : List ℕ) (b : Bool) → b ≡ hasVessel k → b ≡ false → 10 ≡ vesselBy k s
+unfolding vesselBy
+vessel-none k s b e q = rw (← e, q)
+
+-- a number that was read
+module _ (n : Number) where
+  pub no-mark : (n ≡ NoNumber → 0 ≡ marked (wholeKey (wholeReading n))) × (n ≡ OddNumber → 0 ≡ marked (wholeKey (wholeReading n)))
+      × (n ≡ LargeNumber → 0 ≡ marked (wholeKey (wholeReading n)))
+  unfolding marked wholeKey wholeReading
+  no-mark = (λ e. rw e, λ e. rw e, λ e. rw e)
+
+  module _ (d : Figure) (e : n ≡ Numeral d) where
+    pub minus-mark : isMinus (d .units) ≡ true → 0 ≡ marked (wholeKey (wholeReading n))
+    unfolding marked wholeKey wholeReading
+    minus-mark h = rw e (go (d .units) h)
+      where
+        go : (z : ℤ) → isMinus z ≡ true → 0 ≡ marked (wholeKey (Held (Whole z)))
+        go (pos m) q = let x : _≡_ {A = ℕ} 0 1 = cc in absurd (omega arith)
+        go (negsuc m) q = refl
+
+    pub plus-mark : (m : ℕ) → isMinus (d .units) ≡ false → m ≡ natAbs (d .units) → m + 1 ≡ marked (wholeKey (wholeReading n))
+    unfolding marked wholeKey wholeReading
+    plus-mark m h q = rw e (go (d .units) h q)
+      where
+        go : (z : ℤ) → isMinus z ≡ false → m ≡ natAbs z → m + 1 ≡ marked (wholeKey (Held (Whole z)))
+        go (pos j) a p = add-one m ∙ ap suc p
+        go (negsuc j) a p = let x : _≡_ {A = ℕ} 0 1 = cc in absurd (omega arith)
+
+-- its size
+pub size-room : (z : ℤ) → SFits w64 z → (m : ℕ) → m ≡ natAbs z → m ≤ 9223372036854775808
+size-room (pos n) f m q = omega (arith, f .sfits)
+size-room (negsuc n) f m q = omega (arith, f .sfits)
+
+pub whole-marked : (s : List ℕ) (first last : ℕ) (t : List ℕ) (n : Number) (r : ℕ) → t ≡ between first last s
+    → n ≡ numberOf false t
+    → r ≡ marked (wholeKey (wholeReading n)) → r ≡ marked (wholeIn first last s)
+unfolding wholeIn readingOf
+whole-marked s first last t n r e q h =
+    h ∙ ap (λ x. marked (wholeKey (wholeReading x))) (q ∙ ap (numberOf false) e)
+
+-- a mark tells the number
+abbrev pub unmarked : ℕ → List ℕ
+unmarked zero = []
+unmarked (suc n) = n ∷ []
+
+pub mark-tells : (r : Reading) → wholeKey r ≡ unmarked (marked (wholeKey r))
+unfolding wholeKey marked
+mark-tells (Held (Whole (pos n))) = refl
+mark-tells (Held (Whole (negsuc n))) = refl
+mark-tells (Held Absent) = refl
+mark-tells (Held (Decimal d)) = refl
+mark-tells (Held (Angle z)) = refl
+mark-tells (Held (Date d)) = refl
+mark-tells (Held (Text c)) = refl
+mark-tells Malformed = refl
+mark-tells OutOfRange = refl
+
+module _ (s : List ℕ) (first last m : ℕ) (is : m ≡ marked (wholeIn first last s)) where
+  told : wholeIn first last s ≡ unmarked m
+  unfolding wholeIn
+  told = mark-tells _ ∙ ap unmarked (sym is)
+
+  pub none-there : m ≡ 0 → wholeIn first last s ≡ []
+  none-there z = told ∙ ap unmarked z
+
+  pub one-there : (m ≡ 0 → ⊥) → wholeIn first last s ≡ (m - 1) ∷ []
+  one-there z = let q : m ≡ suc (m - 1) = omega arith in told ∙ ap unmarked q
+
+  pub no-number : (class : ℕ) → m ≡ 0 → 0 ≡ packed class (wholeOffered class (wholeIn first last s))
+  no-number class z = rw (none-there z) (sym (offered-none class))
+
+  pub a-number : (class n : ℕ) → (m ≡ 0 → ⊥) → n ≡ packed class (wholeOffered class ((m - 1) ∷ []))
+      → n ≡ packed class (wholeOffered class (wholeIn first last s))
+  a-number class n z h = rw (one-there z) h
+
+-- a pair is there where both numbers are
+paired-none : (a : List ℕ) → paired a [] ≡ []
+unfolding paired isNone
+paired-none [] = refl
+paired-none (n ∷ ns) = refl
+
+pub no-first : (a b : List ℕ) → a ≡ [] → 0 ≡ packed 7 (paired a b)
+unfolding paired isNone
+no-first a b e = rw e (sym (none-packed 7))
+
+pub no-second : (a b : List ℕ) → b ≡ [] → 0 ≡ packed 7 (paired a b)
+no-second a b e = rw (e, paired-none a) (sym (none-packed 7))
+
+pub both-there : (a b : List ℕ) (m n r : ℕ) → a ≡ m ∷ [] → b ≡ n ∷ [] → r ≡ packed 7 (m ∷ n ∷ []) → r ≡ packed 7 (paired a b)
+unfolding paired isNone
+both-there a b m n r p q h = rw (p, q) h
+
+-- the key that a line finds, by where it stands
+module _ (class : ℕ) (src : Source) (s : List ℕ) (fits : ofKind class (meant src) ≡ true) (r : ℕ) where
+  pub by-digit : src ≡ held.Digit → (n : ℕ) → n ≡ byteIn s 5 - 48 → r ≡ packed class (wholeOffered class (n ∷ []))
+      → r ≡ packed class (keyIn (meant src) s)
+  unfolding ofKind meant keyIn
+  by-digit e n q h =
+      let w : isWhole class ≡ true = rw e at fits in
+      rw (e, ← q) (h ∙ ap (packed class) (offered-whole class w (n ∷ [])))
+
+  pub by-whole : (first last : ℕ) → src ≡ held.Whole first last → r ≡ packed class (wholeOffered class (wholeIn first last s))
+      → r ≡ packed class (keyIn (meant src) s)
+  unfolding ofKind meant keyIn
+  by-whole first last e h =
+      let w : isWhole class ≡ true = rw e at fits in
+      rw e (h ∙ ap (packed class) (offered-whole class w (wholeIn first last s)))
+
+  pub by-serial : (first last : ℕ) → src ≡ held.Serial first last → (t : List ℕ) → t ≡ between first last s
+      → r ≡ packed 4 (textOf t)
+      → r ≡ packed class (keyIn (meant src) s)
+  unfolding ofKind meant keyIn
+  by-serial first last e t q h =
+      let w : eqb class 4 ≡ true = rw e at fits in
+      rw (e, eqb-true class 4 w, ← q) h
+
+  pub by-waypoint : (first last : ℕ) → src ≡ held.Waypoint first last
+      → r ≡ packed 7 (paired (wholeIn 7 7 s) (wholeIn first last s))
+      → r ≡ packed class (keyIn (meant src) s)
+  unfolding ofKind meant keyIn
+  by-waypoint first last e h =
+      let w : eqb class 7 ≡ true = rw e at fits in
+      rw (e, eqb-true class 7 w) h
+
+  pub by-only : src ≡ held.Only → r ≡ packed class (wholeOffered class (0 ∷ [])) → r ≡ packed class (keyIn (meant src) s)
+  unfolding ofKind meant keyIn
+  by-only e h =
+      let w : isWhole class ≡ true = rw e at fits in
+      rw e (h ∙ ap (packed class) (offered-whole class w (0 ∷ [])))
+
+  pub by-nothing : src ≡ held.Nothing → 0 ≡ packed class (keyIn (meant src) s)
+  unfolding meant keyIn
+  by-nothing e = rw e (sym (none-packed class))

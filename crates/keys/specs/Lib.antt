@@ -1,0 +1,3 @@
+pub mod Roles
+pub mod Keys
+pub mod Lines

@@ -1,0 +1,4 @@
+-- Laws of packed keys.
+pub mod Bits
+pub mod Steps
+pub mod Told

@@ -1,0 +1,12 @@
+-- `packing::is_whole` meets its contract.
+use mathlib.Core.Path.{refl}
+use Rattle.packing.specs.Packing.{isWhole}
+use Rattle.packing.proofs.is_whole.Statement.{statement}
+use Rattle.packing.proofs.is_whole.Tie as tie
+
+returns : tie.Need-returns
+unfolding isWhole
+returns c = refl
+
+pub is-whole-spec : {M : Type 1} → statement M
+is-whole-spec = tie.close (tie.spec returns)

@@ -1,0 +1,184 @@
+-- The working of the example: what it defines, and the faults of each card from the sites of its layout.
+use Prim.Native.Nat.{ℕ, _+_, _/_, _%_}
+use mathlib.Core.Path.{_≡_, refl, ap, ap₂, _∙_}
+use mathlib.Core.Bool.{_&&_}
+use mathlib.Core.List.{List, [], _∷_, _++_, map, flatMap}
+use lib.ListN.{length, getD}
+use Rattle.lists.specs.Count.{count}
+use Rattle.lists.specs.Parts.{alike, part, kept, upTo}
+use Rattle.lists.proofs.Entries.{entries-append}
+use Rattle.digits.specs.Figures.{blanks, unpadded, leading, behind, valueFrom}
+use Rattle.signs.specs.Signs.{signedOf}
+use Rattle.number.specs.Reading.{pointOf, figuresOf, heldOf, signOf, numberOf}
+use Rattle.text.specs.Texts.{textEnd, textOf}
+use Rattle.spelling.specs.Reading.{wholeReading, readingOf}
+use Rattle.layout.specs.Shape.{bytes}
+use Rattle.layout.specs.Table.{layouts, passedCodes}
+use Rattle.codes.specs.Codes.{byteFits, fitsAt, fits, codes, placeIn, codeAt, codeOf}
+use Rattle.forms.specs.Cards.{cardAt, cardsIn, byteIn, layoutOf}
+use Rattle.keys.specs.Roles.{ties, lineIn, lineFor, hasVessel}
+use Rattle.keys.specs.Keys.{isNone, between, wholeKey, wholeIn, paired, keyIn, classAt, keyAt, holdsKey, vesselOf, contradict}
+use Rattle.ties.specs.Definitions.{places, cardOf, columnOf, definitionsOf, contradictionsOf}
+use Rattle.ties.specs.Faults.{definitionsAt, undefined, redefined, ambiguous, statesVessel, contradicted, differs, miscounted}
+use Rattle.ties.specs.Faults.{brokenOn, broken}
+use Rattle.tie_laws.proofs.Complete.{listOf}
+use Rattle.tie_laws.proofs.Sites.{hasLine, isSite}
+use Rattle.tie_laws.proofs.CardByCard.{siteEntry, sitesOf, entriesOn, card-by-card}
+use Rattle.tie_laws.proofs.Collected.{Definition, collected, isOf, definitions-collected, contradictions-collected}
+use Rattle.tie_laws.proofs.ExampleCards.{lineCard, streamerCard, nodeCard, otherNodeCard, compassCard, example}
+
+abbrev definition : ℕ → List ℕ → ℕ → Definition
+definition class key vessel = record { class = class; key = key; vessel = vessel }
+
+-- what it defines: a vessel line, a streamer, nodes and serials
+abbrev defined : List Definition
+defined =
+    definition 6 (1 ∷ []) 1 ∷ definition 2 (1 ∷ []) 1 ∷
+    definition 3 (214 ∷ []) 1 ∷ definition 4 (bytes "A17") 1 ∷ definition 3 (214 ∷ []) 1 ∷ definition 4 (bytes "A18") 1 ∷
+    definition 3 (215 ∷ []) 2 ∷ []
+
+all-defined : collected example ≡ defined
+unfolding count alike part kept upTo blanks unpadded leading behind valueFrom signedOf pointOf figuresOf heldOf signOf
+    numberOf textEnd textOf wholeReading readingOf layouts passedCodes byteFits fitsAt fits codes placeIn codeAt codeOf cardAt
+    cardsIn byteIn layoutOf ties lineIn lineFor hasVessel isNone between wholeKey wholeIn paired keyIn classAt keyAt holdsKey
+    vesselOf places cardOf columnOf collected example
+all-defined = refl
+
+-- how often a key is defined
+defined-times : (class : ℕ) (key : List ℕ) → definitionsOf example class key ≡ length (kept (isOf class key) defined)
+defined-times class key = definitions-collected example class key ∙ ap (λ l. length (kept (isOf class key) l)) all-defined
+
+against-times : (class : ℕ) (key : List ℕ) (vessel : ℕ)
+    → contradictionsOf example class key vessel ≡ length (kept (λ d. isOf class key d && contradict vessel (d .vessel)) defined)
+against-times class key vessel =
+    contradictions-collected example class key vessel
+    ∙ ap (λ l. length (kept (λ d. isOf class key d && contradict vessel (d .vessel)) l)) all-defined
+
+pub one-streamer : definitionsOf example 2 (1 ∷ []) ≡ 1
+unfolding kept isOf alike
+one-streamer = defined-times 2 (1 ∷ [])
+
+pub one-line : definitionsOf example 6 (1 ∷ []) ≡ 1
+unfolding kept isOf alike
+one-line = defined-times 6 (1 ∷ [])
+
+pub two-nodes : definitionsOf example 3 (214 ∷ []) ≡ 2
+unfolding kept isOf alike
+two-nodes = defined-times 3 (214 ∷ [])
+
+pub one-node : definitionsOf example 3 (215 ∷ []) ≡ 1
+unfolding kept isOf alike
+one-node = defined-times 3 (215 ∷ [])
+
+pub serial-17 : definitionsOf example 4 (bytes "A17") ≡ 1
+unfolding kept isOf alike
+serial-17 = defined-times 4 (bytes "A17")
+
+pub serial-18 : definitionsOf example 4 (bytes "A18") ≡ 1
+unfolding kept isOf alike
+serial-18 = defined-times 4 (bytes "A18")
+
+pub no-serial : definitionsOf example 4 (bytes "A19") ≡ 0
+unfolding kept isOf alike
+no-serial = defined-times 4 (bytes "A19")
+
+-- the streamer's card has the vessel 1
+not-against : contradictionsOf example 2 (1 ∷ []) 1 ≡ 0
+unfolding kept isOf alike contradict
+not-against = against-times 2 (1 ∷ []) 1
+
+against : contradictionsOf example 2 (1 ∷ []) 2 ≡ 1
+unfolding kept isOf alike contradict
+against = against-times 2 (1 ∷ []) 2
+
+-- cards 1 to 8 have no column that could carry a fault
+first-eight : flatMap (entriesOn example) (upTo 8) ≡ []
+unfolding kept part upTo flatMap layouts passedCodes byteFits fitsAt fits codes placeIn codeAt codeOf cardAt layoutOf ties
+    lineIn lineFor hasLine isSite sitesOf entriesOn example
+first-eight = refl
+
+-- the other five, the sites of their layouts, and the faults there
+abbrev five : List (List ℕ)
+five = lineCard ∷ streamerCard ∷ nodeCard ∷ otherNodeCard ∷ compassCard ∷ []
+
+five-there : map (cardAt example) (8 ∷ 9 ∷ 10 ∷ 11 ∷ 12 ∷ []) ≡ five
+unfolding part cardAt example
+five-there = refl
+
+-- column 30 with kinds 2 and 4, column 79 with 5
+abbrev lineSites : List ℕ
+lineSites = 146 ∷ 148 ∷ 394 ∷ []
+
+-- column 7 with 2
+abbrev streamerSites : List ℕ
+streamerSites = 31 ∷ []
+
+-- column 7 with 1, 3 and 4; columns 11, 16, 36 and 41 with 2
+abbrev nodeSites : List ℕ
+nodeSites = 30 ∷ 32 ∷ 33 ∷ 51 ∷ 76 ∷ 176 ∷ 201 ∷ []
+
+-- column 7 with 1, 3 and 4
+abbrev compassSites : List ℕ
+compassSites = 30 ∷ 32 ∷ 33 ∷ []
+
+abbrev fiveSites : List (List ℕ)
+fiveSites = lineSites ∷ streamerSites ∷ nodeSites ∷ nodeSites ∷ compassSites ∷ []
+
+their-sites : map (λ s. sitesOf (layoutOf s)) five ≡ fiveSites
+unfolding kept upTo layouts passedCodes byteFits fitsAt fits codes placeIn codeAt codeOf layoutOf ties lineIn lineFor hasLine
+    isSite sitesOf
+their-sites = refl
+
+-- the entries of a card by its bytes, from some sites
+unfoldable entriesFrom : ℕ → List ℕ → List ℕ → List (List ℕ)
+entriesFrom c s sites = map (siteEntry c) (kept (λ i. brokenOn example s (i / 5 + 1) (i % 5 + 1)) sites)
+
+on-card : (c : ℕ) (s sites : List ℕ) → cardAt example c ≡ s → sitesOf (layoutOf s) ≡ sites
+    → entriesOn example c ≡ entriesFrom c s sites
+unfolding entriesOn broken entriesFrom
+on-card c s sites e q =
+    ap (λ r. map (siteEntry c) (kept (λ i. brokenOn example r (i / 5 + 1) (i % 5 + 1)) (sitesOf (layoutOf r)))) e ∙ rw q
+
+abbrev four : List (List ℕ)
+four = (11 ∷ 11 ∷ 2 ∷ []) ∷ (11 ∷ 36 ∷ 2 ∷ []) ∷ (12 ∷ 7 ∷ 4 ∷ []) ∷ (13 ∷ 7 ∷ 1 ∷ []) ∷ []
+
+their-entries :
+    entriesFrom 8 lineCard lineSites
+    ++ (entriesFrom 9 streamerCard streamerSites
+    ++ (entriesFrom 10 nodeCard nodeSites
+    ++ (entriesFrom 11 otherNodeCard nodeSites ++ (entriesFrom 12 compassCard compassSites ++ []))))
+    ≡ four
+unfolding alike kept blanks unpadded leading behind valueFrom signedOf pointOf figuresOf heldOf signOf numberOf textEnd textOf
+    wholeReading readingOf layouts passedCodes byteFits fitsAt fits codes placeIn codeAt codeOf byteIn layoutOf ties lineIn
+    lineFor hasVessel isNone between wholeKey wholeIn paired keyIn classAt keyAt holdsKey vesselOf definitionsAt undefined
+    redefined ambiguous statesVessel contradicted differs miscounted brokenOn entriesFrom
+their-entries = rw (one-line, one-streamer, two-nodes, one-node, serial-17, serial-18, no-serial, not-against, against)
+
+other-five : flatMap (entriesOn example) (8 ∷ 9 ∷ 10 ∷ 11 ∷ 12 ∷ []) ≡ four
+unfolding flatMap
+other-five = rw (
+  on-card 8 lineCard lineSites (there 0) (sites 0),
+  on-card 9 streamerCard streamerSites (there 1) (sites 1),
+  on-card 10 nodeCard nodeSites (there 2) (sites 2),
+  on-card 11 otherNodeCard nodeSites (there 3) (sites 3),
+  on-card 12 compassCard compassSites (there 4) (sites 4),
+) their-entries
+  where
+    there : (i : ℕ) → getD (map (cardAt example) (8 ∷ 9 ∷ 10 ∷ 11 ∷ 12 ∷ [])) i [] ≡ getD five i []
+    there i = ap (λ l. getD l i []) five-there
+
+    sites : (i : ℕ) → getD (map (λ s. sitesOf (layoutOf s)) five) i [] ≡ getD fiveSites i []
+    sites i = ap (λ l. getD l i []) their-sites
+
+pub thirteen : cardsIn example ≡ 13
+unfolding cardsIn example
+thirteen = refl
+
+-- card by card, the first eight and the other five
+pub by-cards : listOf example ≡ four
+unfolding upTo
+by-cards =
+    card-by-card example
+    ∙ ap (λ n. flatMap (entriesOn example) (upTo n)) thirteen
+    ∙ entries-append (entriesOn example) (upTo 8) (8 ∷ 9 ∷ 10 ∷ 11 ∷ 12 ∷ [])
+    ∙ ap₂ _++_ first-eight other-five

@@ -1,0 +1,154 @@
+-- Cards that change places: every key has as many definitions as before, and every card the same faults at its new place.
+use Prim.Native.Nat.{ℕ, _+_, _*_, _-_, _/_, _%_, _<_}
+use native.Mathlib.Omega.{arith}
+use mathlib.Core.Path.{_≡_, sym, ap, ap₂, _∙_}
+use mathlib.Core.Logic.{_↔_}
+use mathlib.Core.Bool.{Bool, _&&_}
+use mathlib.Core.List.{List, [], _∷_}
+use lib.Dec.{eqb}
+use lib.ListN.{length, take}
+use Rattle.lists.specs.Count.{count, carried, Rearranged}
+use Rattle.lists.specs.Parts.{alike}
+use Rattle.lists.proofs.Moving.{count-moved, spread}
+use Rattle.forms.specs.Cards.{cardAt, cardsIn, layoutOf}
+use Rattle.keys.specs.Roles.{defines, refers, H0101}
+use Rattle.keys.specs.Keys.{classAt, keyAt, holdsKey, definesKey, vesselOf, contradict, wholeIn}
+use Rattle.ties.specs.Definitions.{places, cardOf, columnOf, definedAt, definitionsOf, placeOf}
+use Rattle.ties.specs.Definitions.{contradictionsOf, waypointAt, waypointsOf, pointsOf}
+use Rattle.ties.specs.Faults.{
+  definitionsAt,
+  undefined,
+  redefined,
+  ambiguous,
+  contradicted,
+  miscounted,
+  brokenOn,
+  broken,
+  triples,
+  brokenAt,
+}
+use Rattle.tie_laws.proofs.Complete.{listOf, Fault, how-many}
+use Rattle.tie_laws.proofs.Places.{one-exactly, place-named, place-only, no-place-exactly}
+
+-- h′ is h with its cards in another order
+pub record Reordered (h h′ : List ℕ) : Type 0 where
+  pub order : Rearranged (cardsIn h)
+  pub same-length : length h′ ≡ length h
+  pub same-card : (c : ℕ) → c < cardsIn h → cardAt h′ (order .to c) ≡ cardAt h c
+
+module _ (h h′ : List ℕ) (m : Reordered h h′) where
+  pub same-count : cardsIn h′ ≡ cardsIn h
+  unfolding cardsIn
+  same-count = ap (λ n. n / 80) (m .same-length)
+
+  -- what is counted by card and column
+  by-place : (g : List ℕ → ℕ → Bool)
+      → count (λ p. g (cardOf h′ p) (columnOf p)) (places h′) ≡ count (λ p. g (cardOf h p) (columnOf p)) (places h)
+  unfolding places cardOf columnOf carried
+  by-place g = rw same-count (count-moved (spread 80 (omega arith) (m .order))
+      (λ p. g (cardOf h p) (columnOf p)) (λ p. g (cardOf h′ p) (columnOf p))
+      (λ p l.
+      let to : ℕ = m .order .to (p / 80) in
+      let a : (80 * to + p % 80) / 80 ≡ to = omega arith in
+      let b : (80 * to + p % 80) % 80 ≡ p % 80 = omega arith in
+      rw (a, b, m .same-card (p / 80) (omega arith))))
+
+  -- a key has as many definitions, by those of another vessel too
+  pub definitions-moved : (class : ℕ) (key : List ℕ) → definitionsOf h′ class key ≡ definitionsOf h class key
+  unfolding definitionsOf definedAt
+  definitions-moved class key = by-place (λ s column. definesKey s class key column)
+
+  pub contradictions-moved : (class : ℕ) (key : List ℕ) (vessel : ℕ)
+      → contradictionsOf h′ class key vessel ≡ contradictionsOf h class key vessel
+  unfolding contradictionsOf definedAt
+  contradictions-moved class key vessel = by-place (λ s column. definesKey s class key column && contradict vessel (vesselOf s))
+
+  -- a vessel as many waypoints, and the grid as many points
+  pub waypoints-moved : (vessel : List ℕ) → waypointsOf h′ vessel ≡ waypointsOf h vessel
+  unfolding waypointsOf waypointAt
+  waypoints-moved vessel = by-place (λ s column.
+      holdsKey defines s column && (eqb (classAt defines s column) 7 && alike (take 1 (keyAt defines s column)) vessel))
+
+  pub points-moved : pointsOf h′ ≡ pointsOf h
+  unfolding pointsOf
+  points-moved = rw same-count (count-moved (m .order)
+      (λ c. eqb (layoutOf (cardAt h c)) H0101) (λ c. eqb (layoutOf (cardAt h′ c)) H0101)
+      (λ c l. ap (λ s. eqb (layoutOf s) H0101) (m .same-card c l)))
+
+  -- so the same ties of a card are broken
+  pub broken-on-moved : (s : List ℕ) (column kind : ℕ) → brokenOn h′ s column kind ≡ brokenOn h s column kind
+  unfolding brokenOn undefined redefined ambiguous contradicted miscounted definitionsAt
+  broken-on-moved s column kind = rw (
+    definitions-moved (classAt refers s column) (keyAt refers s column),
+    definitions-moved (classAt defines s column) (keyAt defines s column),
+    contradictions-moved (classAt refers s column) (keyAt refers s column) (vesselOf s),
+    waypoints-moved (wholeIn 30 30 s),
+    points-moved,
+  )
+
+  -- a card has the same faults at its new place
+  pub broken-moved : (c column kind : ℕ) → c < cardsIn h → broken h′ (m .order .to c) column kind ≡ broken h c column kind
+  unfolding broken
+  broken-moved c column kind l = rw (m .same-card c l) (broken-on-moved (cardAt h c) column kind)
+
+  pub fault-moved : (c column kind : ℕ) → c < cardsIn h → Fault h (c + 1) column kind ↔ Fault h′ (m .order .to c + 1) column kind
+  fault-moved c column kind l = (
+    λ f. record {
+      first-card = omega arith;
+      last-card = omega (arith, same-count, m .order .to-below c l);
+      first-column = f .first-column;
+      last-column = f .last-column;
+      first-kind = f .first-kind;
+      last-kind = f .last-kind;
+      is-broken = rw (back (m .order .to c)) (broken-moved c column kind l ∙ rw (back c) at (f .is-broken));
+    },
+    λ f. record {
+      first-card = omega arith;
+      last-card = omega arith;
+      first-column = f .first-column;
+      last-column = f .last-column;
+      first-kind = f .first-kind;
+      last-kind = f .last-kind;
+      is-broken = rw (back c) (sym (broken-moved c column kind l) ∙ rw (back (m .order .to c)) at (f .is-broken));
+    },
+  )
+    where
+      back : (n : ℕ) → n + 1 - 1 ≡ n
+      back n = omega arith
+
+  -- and the list as many entries
+  pub as-many-faults : length (listOf h′) ≡ length (listOf h)
+  unfolding triples brokenAt carried
+  as-many-faults = how-many h′ ∙ counted ∙ sym (how-many h)
+    where
+      counted : count (brokenAt h′) (triples h′) ≡ count (brokenAt h) (triples h)
+      counted = rw same-count (count-moved (spread 400 (omega arith) (m .order)) (brokenAt h) (brokenAt h′)
+          (λ t l.
+          let to : ℕ = m .order .to (t / 400) in
+          let a : (400 * to + t % 400) / 400 ≡ to = omega arith in
+          let b : (400 * to + t % 400) / 5 % 80 ≡ t / 5 % 80 = omega arith in
+          let d : (400 * to + t % 400) % 5 ≡ t % 5 = omega arith in
+          rw (a, b, d) (broken-moved (t / 400) (t / 5 % 80 + 1) (t % 5 + 1) (omega arith))))
+
+  -- the only definition of a key is found at its card's new place, and none where none was
+  pub place-moved : (class : ℕ) (key : List ℕ) (c column : ℕ) → c < cardsIn h
+      → placeOf h class key ≡ (c + 1) ∷ column ∷ [] → placeOf h′ class key ≡ (m .order .to c + 1) ∷ column ∷ []
+  place-moved class key c column l e =
+      let o = place-only h class key (c + 1) column (omega arith) e in
+      let x = o .here in
+      let one : definitionsOf h′ class key ≡ 1 = definitions-moved class key ∙ one-exactly h class key .1 (c + 1, column, o) in
+      let r = one-exactly h′ class key .0 one in
+      let a : m .order .to c + 1 - 1 ≡ m .order .to c = omega arith in
+      let b : c + 1 - 1 ≡ c = omega arith in
+      let q = r .2 .nowhere-else (m .order .to c + 1) column (record {
+        first-card = omega arith;
+        last-card = omega (arith, same-count, m .order .to-below c l);
+        first-column = x .first-column;
+        last-column = x .last-column;
+        defines-it = rw (a, m .same-card c l) (rw b at (x .defines-it));
+      }) in
+      place-named h′ class key (r .0) (r .1) (r .2) ∙ sym (ap₂ (λ i j. i ∷ j ∷ []) (q .0) (q .1))
+
+  pub no-place-moved : (class : ℕ) (key : List ℕ) → placeOf h class key ≡ 0 ∷ 0 ∷ [] → placeOf h′ class key ≡ 0 ∷ 0 ∷ []
+  no-place-moved class key e =
+      no-place-exactly h′ class key .1 (λ o. no-place-exactly h class key .0 e (sym (definitions-moved class key) ∙ o))

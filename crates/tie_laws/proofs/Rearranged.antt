@@ -1,0 +1,40 @@
+-- The cards behind the opening block of an accepted header in any other order: accepted too, the same faults on the same
+-- cards, the same number of them.
+use Prim.Native.Nat.{ℕ, _+_, _<_}
+use mathlib.Core.Path.{_≡_}
+use mathlib.Core.Logic.{_↔_}
+use mathlib.Core.List.{List}
+use lib.ListN.{length}
+use Rattle.lists.specs.Count.{Rearranged}
+use Rattle.forms.specs.Cards.{cardAt, cardsIn}
+use Rattle.header.specs.declared.Checked.the-variants.{Accepted}
+use Rattle.header.specs.Refusing.{refusalOf}
+use Rattle.header_laws.proofs.Moved.{Moved, accepted-moved, accepted-opens, accepted-rearranged}
+use Rattle.tie_laws.proofs.Complete.{listOf, Fault}
+use Rattle.tie_laws.proofs.Moved.{Reordered, fault-moved, as-many-faults}
+
+-- h′ has the faults of h, each on its card at the card's new place, and no more of them
+pub record Same-faults (h h′ : List ℕ) (to : ℕ → ℕ) : Type 0 where
+  pub on-cards : (c column kind : ℕ) → c < cardsIn h → Fault h (c + 1) column kind ↔ Fault h′ (to c + 1) column kind
+  pub as-many : length (listOf h′) ≡ length (listOf h)
+
+same-faults : (h h′ : List ℕ) (r : Reordered h h′) → Same-faults h h′ (r .order .to)
+same-faults h h′ r = record { on-cards = fault-moved h h′ r; as-many = as-many-faults h h′ r }
+
+-- cards behind the opening block that change places: accepted alike, with the same faults
+pub moved-alike : (h h′ : List ℕ) (m : Moved h h′)
+    → ((refusalOf h ≡ Accepted) ↔ (refusalOf h′ ≡ Accepted)) × Same-faults h h′ (m .order .to)
+moved-alike h h′ m = (
+  accepted-moved h h′ m,
+  same-faults h h′ (record { order = m .order; same-length = m .same-length; same-card = m .same-card }),
+)
+
+-- any other order of the cards behind the block of an accepted header
+pub rearranged-alike : (h h′ : List ℕ) (a : refusalOf h ≡ Accepted) (π : Rearranged (cardsIn h)) → length h′ ≡ length h
+    → ((c : ℕ) → c < cardsIn h → cardAt h′ (π .to c) ≡ cardAt h c)
+    → ((c : ℕ) → c < accepted-opens h a .end → π .to c ≡ c)
+    → (refusalOf h′ ≡ Accepted) × Same-faults h h′ (π .to)
+rearranged-alike h h′ a π same card kept = (
+  accepted-rearranged h h′ a π same card kept,
+  same-faults h h′ (record { order = π; same-length = same; same-card = card }),
+)
