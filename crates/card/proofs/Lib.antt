@@ -1,4 +1,3 @@
-pub mod Examples
 pub mod Leftmost
 pub mod NewCards
 pub mod Verdicts

@@ -6,9 +6,11 @@ use layout::Found;
 use layout::Kind;
 ghost use mathlib.Core.Path.{_≡_};
 ghost use Prim.Native.Nat.{_≤_, _-_, _+_};
-ghost use lib.ListN.{length};
+ghost use lib.ListN.{length, take};
 ghost use Rattle.lists.specs.Count.{firstFrom};
 ghost use Rattle.layout.specs.Layouts.{labelOf, fieldsOf};
+ghost use Rattle.layout.specs.Packed.{fieldTable};
+ghost use Rattle.codes.specs.Codes.{codeOf};
 ghost use Rattle.card.specs.Judging.{isCoordinate, numberOf, fieldOffence, filledAt, columnOffence, nextVerdict, labelStands, offenceAt, verdictFrom, verdictOf};
 
 const CARD: usize = 80;
@@ -55,26 +57,26 @@ fn number_of(j: Judged) -> usize
 }
 
 // The offence of a field whose form is not known: none of a coordinate.
-fn offence_unread(card: &[u8], layout: usize, f: Field) -> usize
-    requires { ⌜ (length (now card) ≡ 80) × (1 ≤ f .first) × (f .first ≤ f .last) × (f .last ≤ 80) ⌝ }
+fn offence_unread(table: &[u64], card: &[u8], layout: usize, f: Field) -> usize
+    requires { ⌜ (length (now card) ≡ 80) × (1 ≤ f .first) × (f .first ≤ f .last) × (f .last ≤ 80) × (now table ≡ fieldTable) ⌝ }
     ensures { λ r. ⌜ r ≡ fieldOffence layout Form.Unknown (now (card .entry)) f ⌝ }
 {
     let kind = f.kind;
     if is_coordinate(kind) {
         return 0;
     }
-    number_of(judging::judge(card, layout, f, false))
+    number_of(judging::judge(table, card, layout, f, false))
 }
 
 // The number of a field's offence on a card, 0 for none.
-fn field_offence(card: &[u8], layout: usize, f: Field, form: Form) -> usize
-    requires { ⌜ (length (now card) ≡ 80) × (1 ≤ f .first) × (f .first ≤ f .last) × (f .last ≤ 80) ⌝ }
+fn field_offence(table: &[u64], card: &[u8], layout: usize, f: Field, form: Form) -> usize
+    requires { ⌜ (length (now card) ≡ 80) × (1 ≤ f .first) × (f .first ≤ f .last) × (f .last ≤ 80) × (now table ≡ fieldTable) ⌝ }
     ensures { λ r. ⌜ r ≡ fieldOffence layout form (now (card .entry)) f ⌝ }
 {
     match form {
-        Form::Angles => number_of(judging::judge(card, layout, f, false)),
-        Form::Grid => number_of(judging::judge(card, layout, f, true)),
-        Form::Unknown => offence_unread(card, layout, f),
+        Form::Angles => number_of(judging::judge(table, card, layout, f, false)),
+        Form::Grid => number_of(judging::judge(table, card, layout, f, true)),
+        Form::Unknown => offence_unread(table, card, layout, f),
     }
 }
 
@@ -94,14 +96,14 @@ fn first_filled(card: &[u8], from: usize, to: usize) -> usize
 }
 
 // Whether a layout's label stands in its columns.
-fn label_stands(card: &[u8], layout: usize) -> bool
-    requires { ⌜ (length (now card) ≡ 80) × (length (labelOf layout) ≤ 75) ⌝ }
+fn label_stands(table: &[u64], card: &[u8], layout: usize) -> bool
+    requires { ⌜ (length (now card) ≡ 80) × (length (labelOf layout) ≤ 75) × (now table ≡ fieldTable) ⌝ }
     ensures { λ r. ⌜ r ≡ labelStands layout (now (card .entry)) ⌝ }
 {
-    let width = layout::label_length(layout);
+    let width = layout::label_by(table, layout);
     let mut i = 0;
     while i < width {
-        if card[CODE + i] != layout::label_byte(layout, i) {
+        if card[CODE + i] != layout::label_byte_by(table, layout, i) {
             return false;
         }
         i += 1;
@@ -110,8 +112,15 @@ fn label_stands(card: &[u8], layout: usize) -> bool
 }
 
 // The columns from one up to a field, and then the field.
-fn judge_next(card: &[u8], layout: usize, f: Field, form: Form, from: usize) -> Verdict
-    requires { ⌜ (length (now card) ≡ 80) × (1 ≤ from) × (1 ≤ f .first) × (f .first ≤ f .last) × (f .last ≤ 80) ⌝ }
+fn judge_next(
+    table: &[u64],
+    card: &[u8],
+    layout: usize,
+    f: Field,
+    form: Form,
+    from: usize,
+) -> Verdict
+    requires { ⌜ (length (now card) ≡ 80) × (1 ≤ from) × (1 ≤ f .first) × (f .first ≤ f .last) × (f .last ≤ 80) × (now table ≡ fieldTable) ⌝ }
     ensures { λ r. ⌜ r ≡ nextVerdict layout form (now (card .entry)) f from ⌝ }
 {
     let first = f.first;
@@ -119,7 +128,7 @@ fn judge_next(card: &[u8], layout: usize, f: Field, form: Form, from: usize) -> 
     if filled < first {
         return Verdict::Offence(7, filled);
     }
-    let number = field_offence(card, layout, f, form);
+    let number = field_offence(table, card, layout, f, form);
     if number == 0 {
         return Verdict::Fine;
     }
@@ -127,20 +136,20 @@ fn judge_next(card: &[u8], layout: usize, f: Field, form: Form, from: usize) -> 
 }
 
 // The columns behind the label: field by field, each with the columns before it, and the columns behind the last.
-fn judge_columns(card: &[u8], layout: usize, form: Form, from: usize) -> Verdict
-    requires { ⌜ (length (now card) ≡ 80) × (from ≡ 6 + length (labelOf layout)) ⌝ }
+fn judge_columns(table: &[u64], card: &[u8], layout: usize, form: Form, from: usize) -> Verdict
+    requires { ⌜ (length (now card) ≡ 80) × (from ≡ 6 + length (labelOf layout)) × (now table ≡ fieldTable) ⌝ }
     ensures { λ r. ⌜ r ≡ verdictFrom (columnOffence layout form (now (card .entry)) (fieldsOf layout)) from ⌝ }
 {
-    let count = layout::fields_in(layout);
+    let count = layout::fields_by(table, layout);
     let mut column = from;
     let mut number = 0;
     while number < count {
         number += 1;
-        let found = layout::field_of(layout, number);
+        let found = layout::field_by(table, layout, number);
         let Found::Is(f) = found else {
             return Verdict::Fine;
         };
-        let next = judge_next(card, layout, f, form, column);
+        let next = judge_next(table, card, layout, f, form, column);
         let Verdict::Fine = next else {
             return next;
         };
@@ -154,14 +163,31 @@ fn judge_columns(card: &[u8], layout: usize, form: Form, from: usize) -> Verdict
 }
 
 // A card of a read code: its label, and then its columns.
-fn judge_read(card: &[u8], layout: usize, form: Form) -> Verdict
-    requires { ⌜ length (now card) ≡ 80 ⌝ }
+fn judge_read(table: &[u64], card: &[u8], layout: usize, form: Form) -> Verdict
+    requires { ⌜ (length (now card) ≡ 80) × (now table ≡ fieldTable) ⌝ }
     ensures { λ r. ⌜ r ≡ verdictFrom (offenceAt layout form (now (card .entry))) 6 ⌝ }
 {
-    if !label_stands(card, layout) {
+    if !label_stands(table, card, layout) {
         return Verdict::Offence(8, 6);
     }
-    judge_columns(card, layout, form, 6 + layout::label_length(layout))
+    let from = 6 + layout::label_by(table, layout);
+    judge_columns(table, card, layout, form, from)
+}
+
+// A card of 80 columns by its code: the caller has found the code and lends the layouts' table.
+pub fn judge_by(table: &[u64], card: &[u8], code: Code, form: Form) -> Verdict
+    requires { ⌜ (length (now card) ≡ 80) × (code ≡ codeOf (take 5 (now card))) × (now table ≡ fieldTable) ⌝ }
+    ensures { λ r. ⌜ r ≡ verdictOf (now (card .entry)) form ⌝ }
+{
+    let bad = seeking::first_bad(card);
+    if bad < CARD {
+        return Verdict::Offence(4, bad + 1);
+    }
+    match code {
+        Code::Unknown => Verdict::Offence(5, 1),
+        Code::Passed => Verdict::Fine,
+        Code::Read(k) => judge_read(table, card, k, form),
+    }
 }
 
 // A card by itself: its first offence and its column. Its place among other cards is not looked at.
@@ -171,14 +197,7 @@ pub fn judge_card(card: &[u8], form: Form) -> Verdict
     if card.len() != CARD {
         return Verdict::Offence(2, 0);
     }
-    let bad = seeking::first_bad(card);
-    if bad < CARD {
-        return Verdict::Offence(4, bad + 1);
-    }
     let code = codes::code_of(&card[..CODE]);
-    match code {
-        Code::Unknown => Verdict::Offence(5, 1),
-        Code::Passed => Verdict::Fine,
-        Code::Read(k) => judge_read(card, k, form),
-    }
+    let table = layout::table();
+    judge_by(&table, card, code, form)
 }

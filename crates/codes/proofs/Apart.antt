@@ -33,10 +33,10 @@ pub five-bytes : (i : ℕ) → i < patternCount → length (getD codes i []) ≡
 five-bytes i h = eqb→eq _ _ (at five [] codes all-five i (omega (arith, codes-count)))
 
 -- the least and the greatest byte that a pattern's byte takes
-abbrev least : ℕ → ℕ
+abbrev pub least : ℕ → ℕ
 least p = cond (eqb p 64) 49 (cond (eqb p 35) 48 p)
 
-abbrev most : ℕ → ℕ
+abbrev pub most : ℕ → ℕ
 most p = cond (eqb p 64) 57 (cond (eqb p 35) 57 p)
 
 both : (a b : Bool) → a && b ≡ true → (a ≡ true) × (b ≡ true)
@@ -45,7 +45,7 @@ both true false e = (refl, e)
 both false b e = absurd (true≢false (sym e))
 
 -- a byte that fits lies between them
-between : (p b : ℕ) → byteFits p b ≡ true → (least p ≤ b) × (b ≤ most p)
+pub between : (p b : ℕ) → byteFits p b ≡ true → (least p ≤ b) × (b ≤ most p)
 unfolding byteFits
 between p b e = go (eqb p 64) (eqb p 35) e
   where
@@ -62,7 +62,7 @@ apartAt p q i = ltb (most (getD p i 0)) (least (getD q i 0)) || ltb (most (getD 
 abbrev apart : List ℕ → List ℕ → Bool
 apart p q = apartAt p q 4 || (apartAt p q 2 || (apartAt p q 1 || (apartAt p q 3 || apartAt p q 0)))
 
-either : (a b : Bool) → T (a || b) → (T a → ⊥) → (T b → ⊥) → ⊥
+pub either : (a b : Bool) → T (a || b) → (T a → ⊥) → (T b → ⊥) → ⊥
 either true b t f g = f tt
 either false b t f g = g t
 
@@ -149,7 +149,7 @@ passed-count = refl
 
 -- so a pattern that fits is the one that the walk finds
 
-decide : (b : Bool) → (b ≡ true → ⊥) → b ≡ false
+pub decide : (b : Bool) → (b ≡ true → ⊥) → b ≡ false
 decide true n = absurd (n refl)
 decide false n = refl
 

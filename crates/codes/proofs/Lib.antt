@@ -1,4 +1,5 @@
 pub mod Places
 pub mod Walk
 pub mod Apart
+pub mod Skip
 pub mod Examples

@@ -43,7 +43,7 @@ over ps k s h e =
     let z : placeIn (drop k ps) s ≡ 0 = rw (drop-of-length-le ps h) in
     omega arith
 
--- one pattern: its third byte first
+-- one pattern: its third byte first, then its last
 
 fails : (l a b d e : Bool) → false ≡ l && (a && b && false && d && e)
 fails false a b d e = refl
@@ -51,19 +51,30 @@ fails true false b d e = refl
 fails true true false d e = refl
 fails true true true d e = refl
 
-holds : (a b d e : Bool) → a && b && d && e ≡ true && (a && b && true && d && e)
-holds false b d e = refl
-holds true false d e = refl
-holds true true d e = refl
+falls : (a b d : Bool) → false ≡ a && b && true && d && false
+falls false b d = refl
+falls true false d = refl
+falls true true false = refl
+falls true true true = refl
+
+holds : (a b d : Bool) → a && b && d ≡ true && (a && b && true && d && true)
+holds false b d = refl
+holds true false d = refl
+holds true true false = refl
+holds true true true = refl
 
 pub differs : (p s : List ℕ) → fitsAt p s 2 ≡ false → false ≡ fits p s
 unfolding fits
 differs p s f = rw f (fails (eqb (length s) 5) (fitsAt p s 0) (fitsAt p s 1) (fitsAt p s 3) (fitsAt p s 4))
 
-pub agrees : (p s : List ℕ) → length s ≡ 5 → fitsAt p s 2 ≡ true
-    → fitsAt p s 0 && fitsAt p s 1 && fitsAt p s 3 && fitsAt p s 4 ≡ fits p s
-unfolding fits
-agrees p s l f = rw (f, eq-eqb _ _ l) (holds (fitsAt p s 0) (fitsAt p s 1) (fitsAt p s 3) (fitsAt p s 4))
+module _ (p s : List ℕ) (l : length s ≡ 5) (f : fitsAt p s 2 ≡ true) where
+  pub ends-otherwise : fitsAt p s 4 ≡ false → false ≡ fits p s
+  unfolding fits
+  ends-otherwise g = rw (f, eq-eqb _ _ l, g) (falls (fitsAt p s 0) (fitsAt p s 1) (fitsAt p s 3))
+
+  pub agrees : fitsAt p s 4 ≡ true → fitsAt p s 0 && fitsAt p s 1 && fitsAt p s 3 ≡ fits p s
+  unfolding fits
+  agrees g = rw (f, eq-eqb _ _ l, g) (holds (fitsAt p s 0) (fitsAt p s 1) (fitsAt p s 3))
 
 -- from the pattern's number to what the code is
 

@@ -7,7 +7,7 @@ use lib.ListN.{length, getD}
 use Rattle.codes.specs.declared.Code.{Code}
 use Rattle.codes.specs.declared.Code.the-variants.{Read, Passed, Unknown}
 use Rattle.layout.specs.Shape.{Layout}
-use Rattle.layout.specs.Table.{layouts, passedCodes}
+use Rattle.layout.specs.Table.{readTable, passedTable, layouts, passedCodes}
 
 -- a byte of a code fits one of a pattern: @ takes 1 to 9, # takes 0 to 9, anything else itself
 unfoldable pub byteFits : ℕ → ℕ → Bool
@@ -40,7 +40,7 @@ codeOf s = codeAt (placeIn codes s)
 
 -- how many patterns there are
 abbrev pub patternCount : ℕ
-patternCount = 87
+patternCount = length readTable + length passedTable
 
 -- all patterns, five bytes each
 abbrev pub flat : List (List ℕ) → List ℕ

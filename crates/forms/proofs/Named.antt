@@ -8,18 +8,22 @@ use mathlib.Core.Logic.{_↔_}
 use mathlib.Core.Bool.{Bool, true, false, cond}
 use mathlib.Core.List.{List, [], _∷_, map}
 use lib.ListN.{length, getD, take, length-map, List·getD-append, List·getD-map}
-use borrow.Author.Tests.{lt-ltb, le-ltb}
+use borrow.Author.Tests.{lt-ltb, le-ltb, eqb-true}
+use lib.Dec.{eqb}
+use lib.Seq.{getD-take}
 use Rattle.codes.specs.declared.Code.{Code}
 use Rattle.codes.specs.declared.Code.the-variants.{Read, Passed, Unknown}
 use Rattle.layout.specs.Shape.{Layout, bytes}
 use Rattle.layout.specs.Table.{layouts, passedCodes}
-use Rattle.codes.specs.Codes.{fits, codes, placeIn, codeAt, codeOf}
+use Rattle.codes.specs.Codes.{byteFits, fitsAt, fits, codes, placeIn, codeAt, codeOf}
 use Rattle.layout.specs.Layouts.{layoutAt}
 use Rattle.layout.specs.Packed.{layoutCount}
 use Rattle.layout.proofs.Places.{layouts-count}
 use Rattle.codes.proofs.Places.{codes-count}
-use Rattle.codes.proofs.Apart.{read-as}
+use Rattle.codes.proofs.Apart.{read-as, in-each}
 use Rattle.forms.specs.Cards.{numberOf, layoutOf, lineCard, waypointCard, gridCard, pointCard}
+use Rattle.forms.specs.Notes.{noteCard}
+use Rattle.forms.proofs.Steps.{seen-other}
 
 -- H0000 to H0007, H00@8 and H00@9, whose digit may be 0, and H0100 and H0101
 pub named : map (λ k. layoutAt k .code) (0 ∷ 1 ∷ 2 ∷ 3 ∷ 4 ∷ 5 ∷ 6 ∷ 7 ∷ lineCard ∷ waypointCard ∷ gridCard ∷ pointCard ∷ [])
@@ -86,3 +90,21 @@ coded-exactly s k h = (λ e. fitting (read-by (codeOf t) k h e), λ f. ap number
     fitting e =
         ap (λ (p : List ℕ). fits p t) (sym (code-is k h))
         ∙ stops-at codes t k (place-of (placeIn codes t) k e) (omega (arith, codes-count))
+
+-- a card that states a form has a 0 in its second column
+zero-line : (s : List ℕ) → layoutOf s ≡ lineCard → getD s 1 0 ≡ 48
+unfolding fitsAt byteFits layoutAt layouts
+zero-line s e =
+    let f : fits (layoutAt lineCard .code) (take 5 s) ≡ true = coded-exactly s lineCard (omega arith) .0 e in
+    let z : eqb 48 (getD (take 5 s) 1 0) ≡ true = in-each (layoutAt lineCard .code) (take 5 s) f .second in
+    sym (getD-take 5 s 1 0 (omega arith)) ∙ sym (eqb-true 48 (getD (take 5 s) 1 0) z)
+
+zero-grid : (s : List ℕ) → layoutOf s ≡ gridCard → getD s 1 0 ≡ 48
+unfolding fitsAt byteFits layoutAt layouts
+zero-grid s e =
+    let f : fits (layoutAt gridCard .code) (take 5 s) ≡ true = coded-exactly s gridCard (omega arith) .0 e in
+    let z : eqb 48 (getD (take 5 s) 1 0) ≡ true = in-each (layoutAt gridCard .code) (take 5 s) f .second in
+    sym (getD-take 5 s 1 0 (omega arith)) ∙ sym (eqb-true 48 (getD (take 5 s) 1 0) z)
+
+pub seen-none : (t s : List ℕ) (b : ℕ) → b ≡ getD s 1 0 → (b ≡ 48 → ⊥) → t ≡ noteCard t s
+seen-none t s b e n = seen-other t s (layoutOf s) refl (λ q. n (e ∙ zero-line s q)) (λ q. n (e ∙ zero-grid s q))

@@ -10,7 +10,9 @@ use forms::UNREAD;
 use forms::WAYPOINT_CARD;
 use seeking::Refusal;
 ghost use mathlib.Core.Path.{_≡_};
-ghost use lib.ListN.{length};
+ghost use lib.ListN.{length, take};
+ghost use Rattle.layout.specs.Packed.{fieldTable};
+ghost use Rattle.codes.specs.Codes.{codeOf, allCodes};
 ghost use Rattle.seeking.specs.Card.{refusal};
 ghost use Rattle.forms.specs.Cards.{cardsIn};
 ghost use Rattle.forms.specs.Notes.{notesTo};
@@ -77,29 +79,29 @@ fn is_unknown(code: Code) -> bool
 }
 
 // A card out of place: a 4 or a 5 comes first.
-fn judge_misplaced(card: &[u8]) -> Verdict
-    requires { ⌜ length (now card) ≡ 80 ⌝ }
+fn judge_misplaced(card: &[u8], code: Code) -> Verdict
+    requires { ⌜ (length (now card) ≡ 80) × (code ≡ codeOf (take 5 (now card))) ⌝ }
     ensures { λ r. ⌜ r ≡ readable (now (card .entry)) (Verdict.Offence 6 1) ⌝ }
 {
     let bad = seeking::first_bad(card);
     if bad < CARD {
         return Verdict::Offence(4, bad + 1);
     }
-    if is_unknown(codes::code_of(&card[..CODE])) {
+    if is_unknown(code) {
         return Verdict::Offence(5, 1);
     }
     Verdict::Offence(6, 1)
 }
 
 // A card in its place or not.
-fn judge_placed(card: &[u8], form: Form, placed: bool) -> Verdict
-    requires { ⌜ length (now card) ≡ 80 ⌝ }
+fn judge_placed(table: &[u64], card: &[u8], code: Code, form: Form, placed: bool) -> Verdict
+    requires { ⌜ (length (now card) ≡ 80) × (code ≡ codeOf (take 5 (now card))) × (now table ≡ fieldTable) ⌝ }
     ensures { λ r. ⌜ r ≡ placedVerdict (now (card .entry)) form placed ⌝ }
 {
     if placed {
-        return card::judge_card(card, form);
+        return card::judge_by(table, card, code, form);
     }
-    judge_misplaced(card)
+    judge_misplaced(card, code)
 }
 
 // The place past the last card.
@@ -126,9 +128,10 @@ fn answer_for(verdict: Verdict, card: usize) -> Checked
     }
 }
 
-// All cards, with the notes of the forms that they state: the first offence decides.
-fn check_cards(header: &[u8], notes: &[u8; NOTES]) -> Checked
-    requires { ⌜ now notes ≡ notesTo (now header) (cardsIn (now header)) ⌝ }
+// All cards, with the notes of the forms that they state, the layouts' table and the codes' patterns: the first offence
+// decides.
+fn check_cards(header: &[u8], notes: &[u8; NOTES], table: &[u64], patterns: &[u8]) -> Checked
+    requires { ⌜ (now notes ≡ notesTo (now header) (cardsIn (now header))) × (now table ≡ fieldTable) × (now patterns ≡ allCodes) ⌝ }
     ensures { λ r. ⌜ r ≡ cardsAnswer (now (header .entry)) ⌝ }
 {
     let count = header.len() / CARD;
@@ -137,9 +140,11 @@ fn check_cards(header: &[u8], notes: &[u8; NOTES]) -> Checked
     while place < count {
         let from = place * CARD;
         let card = &header[from..from + CARD];
-        let layout = forms::layout_of(card);
+        let code = codes::code_by(patterns, &card[..CODE]);
+        let layout = forms::number_of(code);
         let form = forms::form_by(notes, layout, card);
-        let verdict = judge_placed(card, form, in_place(place, layout, before));
+        let placed = in_place(place, layout, before);
+        let verdict = judge_placed(table, card, code, form, placed);
         let Verdict::Fine = verdict else {
             return answer_for(verdict, place + 1);
         };
@@ -163,5 +168,7 @@ pub fn check(header: &[u8]) -> Checked
         return refused(3);
     }
     let notes = forms::notes_of(header);
-    check_cards(header, &notes)
+    let table = layout::table();
+    let patterns = codes::patterns();
+    check_cards(header, &notes, &table, &patterns)
 }

@@ -4,3 +4,4 @@ pub mod Exactly
 pub mod Opens
 pub mod Moved
 pub mod Examples
+pub mod CardExamples

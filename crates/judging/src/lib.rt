@@ -10,6 +10,7 @@ ghost use mathlib.Core.Path.{_≡_};
 ghost use Prim.Native.Nat.{_≤_, _-_};
 ghost use lib.ListN.{length, take, drop};
 ghost use Rattle.layout.specs.Layouts.{fieldsOf, fieldOf};
+ghost use Rattle.layout.specs.Packed.{fieldTable};
 ghost use Rattle.judging.specs.Fields.{isBlank, spellingOf, secondAt, secondBy, anySecond, neededOn, textLast, readLast, valueOf, heldOf, judgedOf};
 
 // What a field says, or the number of its offence.
@@ -72,11 +73,11 @@ fn second_at(card: &[u8], f: Field) -> bool
 }
 
 // The same of the field with a number; false where there is none.
-pub fn second_by(card: &[u8], layout: usize, number: usize) -> bool
-    requires { ⌜ length (now card) ≡ 80 ⌝ }
+pub fn second_by(table: &[u64], card: &[u8], layout: usize, number: usize) -> bool
+    requires { ⌜ (length (now card) ≡ 80) × (now table ≡ fieldTable) ⌝ }
     ensures { λ r. ⌜ r ≡ secondBy (now (card .entry)) (fieldOf layout number) ⌝ }
 {
-    let found = layout::field_of(layout, number);
+    let found = layout::field_by(table, layout, number);
     let Found::Is(f) = found else {
         return false;
     };
@@ -84,15 +85,15 @@ pub fn second_by(card: &[u8], layout: usize, number: usize) -> bool
 }
 
 // Whether the second set of a card is present.
-fn any_second(card: &[u8], layout: usize) -> bool
-    requires { ⌜ length (now card) ≡ 80 ⌝ }
+fn any_second(table: &[u64], card: &[u8], layout: usize) -> bool
+    requires { ⌜ (length (now card) ≡ 80) × (now table ≡ fieldTable) ⌝ }
     ensures { λ r. ⌜ r ≡ anySecond (now (card .entry)) (fieldsOf layout) ⌝ }
 {
-    let count = layout::fields_in(layout);
+    let count = layout::fields_by(table, layout);
     let mut n = 0;
     while n < count {
         n += 1;
-        if second_by(card, layout, n) {
+        if second_by(table, card, layout, n) {
             return true;
         }
     }
@@ -100,8 +101,8 @@ fn any_second(card: &[u8], layout: usize) -> bool
 }
 
 // Whether a field is needed on the card as it stands.
-fn needed_on(card: &[u8], layout: usize, f: Field) -> bool
-    requires { ⌜ length (now card) ≡ 80 ⌝ }
+fn needed_on(table: &[u64], card: &[u8], layout: usize, f: Field) -> bool
+    requires { ⌜ (length (now card) ≡ 80) × (now table ≡ fieldTable) ⌝ }
     ensures { λ r. ⌜ r ≡ neededOn layout (now (card .entry)) f ⌝ }
 {
     if !f.needed {
@@ -110,7 +111,7 @@ fn needed_on(card: &[u8], layout: usize, f: Field) -> bool
     if !f.second {
         return true;
     }
-    any_second(card, layout)
+    any_second(table, card, layout)
 }
 
 // A value held against its field's need and range.
@@ -154,14 +155,14 @@ fn held_of(needed: bool, f: Field, r: Reading) -> Judged
     }
 }
 
-// What a field of a card says, or the number of its offence.
-pub fn judge(card: &[u8], layout: usize, f: Field, grid: bool) -> Judged
-    requires { ⌜ (length (now card) ≡ 80) × (1 ≤ f .first) × (f .first ≤ f .last) × (f .last ≤ 80) ⌝ }
+// What a field of a card says, or the number of its offence. The caller lends the layouts' table.
+pub fn judge(table: &[u64], card: &[u8], layout: usize, f: Field, grid: bool) -> Judged
+    requires { ⌜ (length (now card) ≡ 80) × (1 ≤ f .first) × (f .first ≤ f .last) × (f .last ≤ 80) × (now table ≡ fieldTable) ⌝ }
     ensures { λ r. ⌜ r ≡ judgedOf layout (now (card .entry)) f grid ⌝ }
 {
     let first = f.first;
     let last = f.last;
     let kind = f.kind;
     let reading = spelling::read(columns(card, first, last), spelling_of(kind, grid));
-    held_of(needed_on(card, layout, f), f, reading)
+    held_of(needed_on(table, card, layout, f), f, reading)
 }

@@ -25,12 +25,6 @@ pub of-layout : (f : Layout → Bool) → T (every (λ (i : ℕ). f) 0 layouts) 
 unfolding layoutAt
 of-layout f t k h = at (λ (i : ℕ). f) (record { code = []; label = []; fields = [] }) layouts t k (omega (arith, layouts-count))
 
--- how many fields each layout has, in the table's order
-pub counts : map (λ (l : Layout). length (l .fields)) layouts
-    ≡ 3 ∷ 4 ∷ 1 ∷ 5 ∷ 1 ∷ 1 ∷ 1 ∷ 1 ∷ 9 ∷ 7 ∷ 1 ∷ 1 ∷ 4 ∷ 5 ∷ 5 ∷ 10 ∷ 14 ∷ 2 ∷ 9 ∷ 14 ∷ 1 ∷ 1 ∷ 9 ∷ 1 ∷ 18 ∷ 2 ∷ []
-unfolding layouts
-counts = refl
-
 -- order
 
 -- each field lies on the card from column c on, and the next after it

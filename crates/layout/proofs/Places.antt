@@ -43,7 +43,7 @@ abbrev starts : List ℕ
 starts = startsFrom (suc layoutCount) 0
 
 abbrev started : ℕ → ℕ → Bool
-started k x = eqb (x % 1024) (fieldStart k) && eqb (x / 1024) (labelStart k)
+started k x = eqb (x % 1024) (fieldStart k) && eqb (x / 1024 % 1024) (labelStart k)
 
 all-started : T (every started 0 starts)
 unfolding fieldStart labelStart layouts
@@ -58,11 +58,11 @@ module _ (k : ℕ) (h : k ≤ layoutCount) where
 
   field-start : getD fieldTable k 0 % 1024 ≡ fieldStart k
   field-start =
-      eqb→eq _ _ (and-left (eqb (getD fieldTable k 0 % 1024) (fieldStart k)) (eqb (getD fieldTable k 0 / 1024) (labelStart k)) both)
+      eqb→eq _ _ (and-left (eqb (getD fieldTable k 0 % 1024) (fieldStart k)) (eqb (getD fieldTable k 0 / 1024 % 1024) (labelStart k)) both)
 
-  label-start : getD fieldTable k 0 / 1024 ≡ labelStart k
+  label-start : getD fieldTable k 0 / 1024 % 1024 ≡ labelStart k
   label-start =
-      eqb→eq _ _ (and-right (eqb (getD fieldTable k 0 % 1024) (fieldStart k)) (eqb (getD fieldTable k 0 / 1024) (labelStart k)) both)
+      eqb→eq _ _ (and-right (eqb (getD fieldTable k 0 % 1024) (fieldStart k)) (eqb (getD fieldTable k 0 / 1024 % 1024) (labelStart k)) both)
 
 table-count : length fieldTable ≡ suc layoutCount + fieldCount
 unfolding fieldTable allFields layouts
@@ -196,8 +196,8 @@ table-length t e = ap length e ∙ table-count
 pub start-is : (t : List ℕ) (k : ℕ) → t ≡ fieldTable → k ≤ layoutCount → getD t k 0 % 1024 ≡ fieldStart k
 start-is t k e h = ap (λ (l : List ℕ). getD l k 0 % 1024) e ∙ field-start k h
 
-pub label-start-is : (t : List ℕ) (k : ℕ) → t ≡ fieldTable → k ≤ layoutCount → getD t k 0 / 1024 ≡ labelStart k
-label-start-is t k e h = ap (λ (l : List ℕ). getD l k 0 / 1024) e ∙ label-start k h
+pub label-start-is : (t : List ℕ) (k : ℕ) → t ≡ fieldTable → k ≤ layoutCount → getD t k 0 / 1024 % 1024 ≡ labelStart k
+label-start-is t k e h = ap (λ (l : List ℕ). getD l k 0 / 1024 % 1024) e ∙ label-start k h
 
 pub field-read : (t : List ℕ) (k n p : ℕ) (f : Field) → t ≡ fieldTable → 0 < n → n ≤ length (fieldsOf k) → p ≡ fieldStart k
     → f ≡ unpack (getD t (layoutCount + p + n) 0) → Is f ≡ fieldOf k n

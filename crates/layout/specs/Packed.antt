@@ -10,17 +10,7 @@ use Rattle.layout.specs.declared.Range.{Range}
 use Rattle.layout.specs.declared.Range.the-variants.{Any, AtLeast, Between, OneOf}
 use Rattle.layout.specs.declared.Field.{Field}
 use Rattle.layout.specs.Shape.{Layout}
-use Rattle.layout.specs.Table.{layouts}
-
--- how many lines the table has: layouts, fields, bytes of labels
-abbrev pub layoutCount : ℕ
-layoutCount = 26
-
-abbrev pub fieldCount : ℕ
-fieldCount = 130
-
-abbrev pub labelCount : ℕ
-labelCount = 161
+use Rattle.layout.specs.Table.{readTable, layouts}
 
 -- a kind's number
 abbrev pub kindNumber : Kind → ℕ
@@ -90,6 +80,16 @@ fieldsIn l = l .fields
 abbrev pub labelIn : Layout → List ℕ
 labelIn l = l .label
 
+-- how many lines the table has: layouts, fields, bytes of labels
+abbrev pub layoutCount : ℕ
+layoutCount = length readTable
+
+abbrev pub fieldCount : ℕ
+fieldCount = length (joined fieldsIn readTable)
+
+abbrev pub labelCount : ℕ
+labelCount = length (joined labelIn readTable)
+
 -- all fields and all label bytes, and where those of a layout begin
 unfoldable pub allFields : List Field
 allFields = joined fieldsIn layouts
@@ -103,10 +103,10 @@ fieldStart k = startIn fieldsIn layouts k
 unfoldable pub labelStart : ℕ → ℕ
 labelStart k = startIn labelIn layouts k
 
--- where the layouts begin, from one with a number on: fields and, times 1024, label bytes
+-- where the layouts begin, from one with a number on: fields, times 1024 label bytes, and times 1048576 the number
 abbrev pub startsFrom : ℕ → ℕ → List ℕ
 startsFrom zero k = []
-startsFrom (suc n) k = (fieldStart k + 1024 * labelStart k) ∷ startsFrom n (suc k)
+startsFrom (suc n) k = (fieldStart k + 1024 * labelStart k + 1048576 * k) ∷ startsFrom n (suc k)
 
 -- the starts of the layouts and the end, and then every field as one number
 unfoldable pub fieldTable : List ℕ

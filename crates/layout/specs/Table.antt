@@ -23,8 +23,8 @@ use Rattle.layout.specs.Shape.{
 }
 
 -- the read codes, numbered from 0 in this order
-unfoldable pub layouts : List Layout
-layouts =
+abbrev pub readTable : List Layout
+readTable =
     -- line name
     layout "H0000" "Line Name:" (text 29 44 ∷ whole 46 49 Any ∷ text 50 80 ∷ []) ∷
     -- project name
@@ -96,8 +96,8 @@ layouts =
     []
 
 -- the passed codes: every other H code that section 5 of the format prints, as printed there
-unfoldable pub passedCodes : List (List ℕ)
-passedCodes =
+abbrev pub passedTable : List (List ℕ)
+passedTable =
     bytes "H0130" ∷
     bytes "H0140" ∷
     bytes "H0150" ∷
@@ -160,3 +160,10 @@ passedCodes =
     bytes "H7020" ∷
     bytes "H7021" ∷
     []
+
+-- the two lists under the names that promises cite: a proof unfolds them where it computes with the lines
+unfoldable pub layouts : List Layout
+layouts = readTable
+
+unfoldable pub passedCodes : List (List ℕ)
+passedCodes = passedTable

@@ -12,7 +12,7 @@ use rows::FIRST;
 use rows::LABEL;
 use rows::LABELS;
 use rows::LAST;
-use rows::LAYOUTS;
+pub use rows::LAYOUTS;
 use rows::NEEDED;
 use rows::RANGE;
 use rows::SECOND;
@@ -55,8 +55,8 @@ pub enum Found {
 }
 
 // The table that the functions below whose names end in `_by` are lent: a constant array is written out anew wherever
-// it is used, so one question holds it once.
-fn table() -> [u64; SIZE]
+// it is used, so one question, or the check of a whole header, holds it once.
+pub fn table() -> [u64; SIZE]
     ensures { λ r. ⌜ r ≡ fieldTable ⌝ }
 {
     TABLE
@@ -73,11 +73,11 @@ fn label_start_by(table: &[u64], layout: usize) -> usize
     requires { ⌜ (now table ≡ fieldTable) × (layout ≤ layoutCount) ⌝ }
     ensures { λ r. ⌜ r ≡ labelStart layout ⌝ }
 {
-    (table[layout] / LABEL) as usize
+    (table[layout] / LABEL % 1024) as usize
 }
 
 // The number of fields of a layout, 0 past the last layout.
-fn fields_by(table: &[u64], layout: usize) -> usize
+pub fn fields_by(table: &[u64], layout: usize) -> usize
     requires { ⌜ now table ≡ fieldTable ⌝ }
     ensures { λ r. ⌜ r ≡ length (fieldsOf layout) ⌝ }
 {
@@ -136,7 +136,7 @@ fn unpacked(number: u64) -> Field
 }
 
 // The field with a number, counted from 1, of a layout.
-fn field_by(table: &[u64], layout: usize, number: usize) -> Found
+pub fn field_by(table: &[u64], layout: usize, number: usize) -> Found
     requires { ⌜ now table ≡ fieldTable ⌝ }
     ensures { λ r. ⌜ r ≡ fieldOf layout number ⌝ }
 {
@@ -158,7 +158,7 @@ pub fn field_of(layout: usize, number: usize) -> Found
 }
 
 // How many columns, from 6 on, a layout's label fills; 0 where it has none.
-fn label_by(table: &[u64], layout: usize) -> usize
+pub fn label_by(table: &[u64], layout: usize) -> usize
     requires { ⌜ now table ≡ fieldTable ⌝ }
     ensures { λ r. ⌜ r ≡ length (labelOf layout) ⌝ }
 {
@@ -176,12 +176,19 @@ pub fn label_length(layout: usize) -> usize
 }
 
 // What a new card has in column 6 + place: the label's byte, and a blank past the label.
+pub fn label_byte_by(table: &[u64], layout: usize, place: usize) -> u8
+    requires { ⌜ now table ≡ fieldTable ⌝ }
+    ensures { λ r. ⌜ r ≡ getD (labelOf layout) place 32 ⌝ }
+{
+    if label_by(table, layout) <= place {
+        return 32;
+    }
+    LABELS[label_start_by(table, layout) + place]
+}
+
 pub fn label_byte(layout: usize, place: usize) -> u8
     ensures { λ r. ⌜ r ≡ getD (labelOf layout) place 32 ⌝ }
 {
     let table = table();
-    if label_by(&table, layout) <= place {
-        return 32;
-    }
-    LABELS[label_start_by(&table, layout) + place]
+    label_byte_by(&table, layout, place)
 }

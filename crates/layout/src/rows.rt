@@ -1,78 +1,78 @@
 // The layout table as the code holds it: one number a field, labels as bytes.
-// A new field is a line of TABLE, one more in the next start below and in FIELDS.
-// The check compares all of it with the table of the specification.
+// A new field is a line of TABLE and one more on its code's line below. The check compares all of it with the specification.
 
-// How many layouts there are.
-pub const LAYOUTS: usize = 26;
-
-// How many fields they have together, and how many numbers the table of the starts and the fields.
-const FIELDS: usize = 130;
-
-pub const SIZE: usize = LAYOUTS + 1 + FIELDS;
-
-// The labels of the layouts, one after the other.
-pub const LABELS: [u8; 161] =
-    *b"Line Name:Project Name:Project Description:Media Specification:Client:Geophysical Contractor:Positioning Contractor:Processing Contractor:Line Parameters Vessel:";
-
-// Where the fields and the label of a layout begin: each line adds what the code of the line before has.
+// What stands up to the end of a code: codes, their fields, the bytes of their labels. Each line adds what its code has.
 // X stands for the digit of a vessel or datum.
+const CODE: u64 = 1048576;
+
 const FIELD: u64 = 1;
 
 pub const LABEL: u64 = 1024;
 
-const H0000: u64 = 0;
+const H0000: u64 = CODE + 3 * FIELD + 10 * LABEL;
 
-const H0001: u64 = H0000 + 3 * FIELD + 10 * LABEL;
+const H0001: u64 = H0000 + CODE + 4 * FIELD + 13 * LABEL;
 
-const H0002: u64 = H0001 + 4 * FIELD + 13 * LABEL;
+const H0002: u64 = H0001 + CODE + 1 * FIELD + 20 * LABEL;
 
-const H0003: u64 = H0002 + 1 * FIELD + 20 * LABEL;
+const H0003: u64 = H0002 + CODE + 5 * FIELD + 20 * LABEL;
 
-const H0004: u64 = H0003 + 5 * FIELD + 20 * LABEL;
+const H0004: u64 = H0003 + CODE + 1 * FIELD + 7 * LABEL;
 
-const H0005: u64 = H0004 + 1 * FIELD + 7 * LABEL;
+const H0005: u64 = H0004 + CODE + 1 * FIELD + 23 * LABEL;
 
-const H0006: u64 = H0005 + 1 * FIELD + 23 * LABEL;
+const H0006: u64 = H0005 + CODE + 1 * FIELD + 23 * LABEL;
 
-const H0007: u64 = H0006 + 1 * FIELD + 23 * LABEL;
+const H0007: u64 = H0006 + CODE + 1 * FIELD + 22 * LABEL;
 
-const H00X8: u64 = H0007 + 1 * FIELD + 22 * LABEL;
+const H00X8: u64 = H0007 + CODE + 9 * FIELD + 23 * LABEL;
 
-const H00X9: u64 = H00X8 + 9 * FIELD + 23 * LABEL;
+const H00X9: u64 = H00X8 + CODE + 7 * FIELD;
 
-const C0001: u64 = H00X9 + 7 * FIELD;
+const C0001: u64 = H00X9 + CODE + 1 * FIELD;
 
-const C0002: u64 = C0001 + 1 * FIELD;
+const C0002: u64 = C0001 + CODE + 1 * FIELD;
 
-const H0100: u64 = C0002 + 1 * FIELD;
+const H0100: u64 = C0002 + CODE + 4 * FIELD;
 
-const H0101: u64 = H0100 + 4 * FIELD;
+const H0101: u64 = H0100 + CODE + 5 * FIELD;
 
-const H011X: u64 = H0101 + 5 * FIELD;
+const H011X: u64 = H0101 + CODE + 5 * FIELD;
 
-const H0120: u64 = H011X + 5 * FIELD;
+const H0120: u64 = H011X + CODE + 10 * FIELD;
 
-const H17X0: u64 = H0120 + 10 * FIELD;
+const H17X0: u64 = H0120 + CODE + 14 * FIELD;
 
-const H17X1: u64 = H17X0 + 14 * FIELD;
+const H17X1: u64 = H17X0 + CODE + 2 * FIELD;
 
-const H21X0: u64 = H17X1 + 2 * FIELD;
+const H21X0: u64 = H17X1 + CODE + 9 * FIELD;
 
-const H21X1: u64 = H21X0 + 9 * FIELD;
+const H21X1: u64 = H21X0 + CODE + 14 * FIELD;
 
-const H21X2: u64 = H21X1 + 14 * FIELD;
+const H21X2: u64 = H21X1 + CODE + 1 * FIELD;
 
-const H21X3: u64 = H21X2 + 1 * FIELD;
+const H21X3: u64 = H21X2 + CODE + 1 * FIELD;
 
-const H22X0: u64 = H21X3 + 1 * FIELD;
+const H22X0: u64 = H21X3 + CODE + 9 * FIELD;
 
-const H2300: u64 = H22X0 + 9 * FIELD;
+const H2300: u64 = H22X0 + CODE + 1 * FIELD;
 
-const H23X0: u64 = H2300 + 1 * FIELD;
+const H23X0: u64 = H2300 + CODE + 18 * FIELD;
 
-const H2301: u64 = H23X0 + 18 * FIELD;
+const H2301: u64 = H23X0 + CODE + 2 * FIELD;
 
-const ALL: u64 = H2301 + 2 * FIELD;
+const ALL: u64 = H2301;
+
+pub const LAYOUTS: usize = (ALL / CODE) as usize;
+
+const FIELDS: usize = (ALL % LABEL) as usize;
+
+// How many numbers the table of the starts and the fields has.
+pub const SIZE: usize = LAYOUTS + 1 + FIELDS;
+
+// The labels of the layouts, one after the other.
+pub const LABELS: [u8; (ALL / LABEL % 1024) as usize] =
+    *b"Line Name:Project Name:Project Description:Media Specification:Client:Geophysical Contractor:Positioning Contractor:Processing Contractor:Line Parameters Vessel:";
 
 // A field is a sum of these: its kind, marks, columns and range.
 const TEXT: u64 = 0;
@@ -113,8 +113,9 @@ const OTHER: u64 = 1048576 * RANGE;
 
 const FLAG: u64 = BETWEEN + HIGH;
 
-// The starts of the layouts, and then their fields.
+// Where the layouts begin and the last one ends, and then their fields.
 pub const TABLE: [u64; SIZE] = [
+    0,
     H0000,
     H0001,
     H0002,
@@ -141,7 +142,6 @@ pub const TABLE: [u64; SIZE] = [
     H2300,
     H23X0,
     H2301,
-    ALL,
     // H0000
     TEXT + 29 * FIRST + 44 * LAST,
     WHOLE + 46 * FIRST + 49 * LAST,

@@ -1,10 +1,10 @@
 -- A list as runs of equal size, the elements that pass a test, and lists whose keys go up.
 -- Assumes nothing.
-use mathlib.Core.Bool.{Bool, true, false, not, _&&_}
+use mathlib.Core.Bool.{Bool, true, false, _&&_}
 use mathlib.Core.List.{List, [], _∷_, _++_}
 use Prim.Native.Nat.{ℕ, zero, suc, _*_, _≤_}
 use lib.Dec.{eqb}
-use lib.ListN.{getD, take, drop}
+use lib.ListN.{take, drop}
 
 module _ {ℓ} {A : Type ℓ} where
   -- the i-th run of `size` elements
@@ -41,7 +41,3 @@ alike [] [] = true
 alike [] (y ∷ ys) = false
 alike (x ∷ xs) [] = false
 alike (x ∷ xs) (y ∷ ys) = eqb x y && alike xs ys
-
--- the number at i is another than b
-abbrev pub otherAt : List ℕ → ℕ → ℕ → Bool
-otherAt l b i = not (eqb (getD l i 0) b)

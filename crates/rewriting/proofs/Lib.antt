@@ -6,3 +6,4 @@ pub mod Back
 pub mod Anew
 pub mod Agreed
 pub mod OneSpelling
+pub mod Edge

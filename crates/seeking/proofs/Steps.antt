@@ -1,11 +1,14 @@
 -- What each way to a field finds.
-use Prim.Native.Nat.{ℕ, _+_, _≤_, _<_}
+use Prim.Native.Nat.{ℕ, zero, suc, _+_, _-_, _≤_, _<_}
+use native.Mathlib.Numerals.{add-one}
 use native.Mathlib.Omega.{arith}
 use mathlib.Core.Path.{_≡_, refl, sym, ap, _∙_}
 use mathlib.Core.List.{List}
-use mathlib.Core.Bool.{true≢false, Bool, true, false, cond, not}
+use mathlib.Core.Bool.{true≢false, Bool, true, false, cond, not, _&&_}
 use lib.ListN.{length, getD, take}
-use lib.Dec.{eqb, ltb}
+use lib.Dec.{eqb, leb, ltb}
+use Rattle.lists.specs.Count.{first, firstFrom}
+use Rattle.lists.proofs.Finding.{begins, goes, over}
 use borrow.Author.Tests.{ne-eqb, le-leb, lt-leb, lt-ltb, le-ltb, ltb-false, eqb-true}
 use Rattle.codes.specs.declared.Code.{Code}
 use Rattle.codes.specs.declared.Code.the-variants as code
@@ -15,7 +18,12 @@ use Rattle.layout.specs.declared.Found.the-variants as found
 use Rattle.codes.specs.Codes.{codeOf}
 use Rattle.layout.specs.Layouts.{fieldOf}
 use Rattle.seeking.specs.declared.Sought.the-variants.{Is, Refused}
-use Rattle.seeking.specs.Card.{refusal, badAt, firstBad, underForm, coded, soughtOf}
+use Rattle.seeking.specs.Card.{refusal, badAt, goodTo, firstBad, underForm, coded, soughtOf}
+
+both : (a b : Bool) → a && b ≡ true → (a ≡ true) × (b ≡ true)
+both true true e = (refl, refl)
+both true false e = (refl, e)
+both false b e = absurd (true≢false (sym e))
 
 -- a byte that is printable, and one that is not
 pub bad-below : (s : List ℕ) (i : ℕ) → getD s i 0 < 32 → badAt s i ≡ true
@@ -26,6 +34,23 @@ bad-above s i h = rw (le-leb 32 (getD s i 0) (omega arith), lt-leb (getD s i 0) 
 
 pub good-byte : (s : List ℕ) (i : ℕ) → 32 ≤ getD s i 0 → getD s i 0 ≤ 126 → badAt s i ≡ false
 good-byte s i h k = rw (le-leb 32 (getD s i 0) h, le-leb (getD s i 0) 126 k)
+
+-- all bytes printable: one more, and the end
+pub good-more : (s : List ℕ) (i : ℕ) (b : Bool) → b ≡ goodTo s i → b && (leb 32 (getD s i 0) && leb (getD s i 0) 126) ≡ goodTo s (i + 1)
+unfolding goodTo
+good-more s i b e = rw (add-one, e)
+
+good-front : (s : List ℕ) (n i : ℕ) → i ≤ n → goodTo s i ≡ true → first (badAt s) n ≡ firstFrom (badAt s) (n - i) i
+unfolding goodTo
+good-front s n zero h g = begins (badAt s) n
+good-front s n (suc i) h g =
+    let t : (goodTo s i ≡ true) × (leb 32 (getD s i 0) && leb (getD s i 0) 126 ≡ true) =
+    both (goodTo s i) (leb 32 (getD s i 0) && leb (getD s i 0) 126) g in
+    rw (← add-one) (good-front s n i (omega arith) (t .0) ∙ goes (badAt s) n i (omega arith) (ap not (t .1)))
+
+pub all-good : (s : List ℕ) (b : Bool) → b ≡ goodTo s (length s) → b ≡ true → length s ≡ firstBad s
+unfolding firstBad
+all-good s b e t = sym (good-front s (length s) (length s) (omega arith) (sym e ∙ t) ∙ over (badAt s) (length s) (length s) (omega arith))
 
 -- the field with a number, under a form
 module _ (k form : ℕ) (o : Found) where

@@ -1,5 +1,5 @@
 -- What is asked of one card before its fields: its length, its bytes and its code.
-use Prim.Native.Nat.{ℕ, _+_}
+use Prim.Native.Nat.{ℕ, zero, suc, _+_}
 use mathlib.Core.List.{List}
 use mathlib.Core.Bool.{Bool, true, false, cond, _&&_, not}
 use lib.ListN.{length, getD, take}
@@ -23,6 +23,11 @@ refusal n card column = record { number = n; card = card; column = column }
 -- a byte outside 32 to 126
 abbrev pub badAt : List ℕ → ℕ → Bool
 badAt s i = not (leb 32 (getD s i 0) && leb (getD s i 0) 126)
+
+-- the bytes up to a place are all within
+unfoldable pub goodTo : List ℕ → ℕ → Bool
+goodTo s zero = true
+goodTo s (suc i) = goodTo s i && (leb 32 (getD s i 0) && leb (getD s i 0) 126)
 
 -- the place, from 0, of the first such byte, or the length
 unfoldable pub firstBad : List ℕ → ℕ

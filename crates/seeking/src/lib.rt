@@ -3,8 +3,10 @@ use codes::Code;
 use layout::Field;
 use layout::Found;
 ghost use mathlib.Core.Path.{_≡_};
+ghost use lib.ListN.{length};
 ghost use Rattle.layout.specs.Layouts.{fieldOf};
-ghost use Rattle.seeking.specs.Card.{refusal, firstBad, underForm, soughtOf};
+ghost use Rattle.layout.specs.Packed.{fieldTable};
+ghost use Rattle.seeking.specs.Card.{refusal, goodTo, firstBad, underForm, soughtOf};
 
 const CARD: usize = 80;
 
@@ -34,10 +36,27 @@ fn refused(number: usize, card: usize, column: usize) -> Sought
     })
 }
 
+// Whether all bytes are printable: no byte ends the loop early, so that it takes many bytes at a time.
+fn all_good(s: &[u8]) -> bool
+    ensures { λ r. ⌜ r ≡ goodTo (now (s .entry)) (length (now (s .entry))) ⌝ }
+{
+    let mut good = true;
+    let mut i = 0;
+    while i < s.len() {
+        let b = s[i];
+        good = good & ((32 <= b) & (b <= 126));
+        i += 1;
+    }
+    good
+}
+
 // The place of the first byte that is not printable, or the length.
 pub fn first_bad(s: &[u8]) -> usize
     ensures { λ r. ⌜ r ≡ firstBad (now (s .entry)) ⌝ }
 {
+    if all_good(s) {
+        return s.len();
+    }
     let mut i = 0;
     while i < s.len() {
         let b = s[i];
@@ -53,10 +72,11 @@ pub fn first_bad(s: &[u8]) -> usize
 }
 
 // The field with a number in a layout, under a form.
-fn under_form(layout: usize, number: usize, form: usize) -> Sought
+fn under_form(table: &[u64], layout: usize, number: usize, form: usize) -> Sought
+    requires { ⌜ now table ≡ fieldTable ⌝ }
     ensures { λ r. ⌜ r ≡ underForm layout form (fieldOf layout number) ⌝ }
 {
-    let found = layout::field_of(layout, number);
+    let found = layout::field_by(table, layout, number);
     match found {
         Found::Nothing => refused(13, 0, 0),
         Found::Is(f) => {
@@ -68,8 +88,9 @@ fn under_form(layout: usize, number: usize, form: usize) -> Sought
     }
 }
 
-// The field with a number on a card, or the first refusal on the way to it.
-pub fn seek(card: &[u8], number: usize, form: usize) -> Sought
+// The field with a number on a card, or the first refusal on the way to it. The caller lends the layouts' table.
+pub fn seek(table: &[u64], card: &[u8], number: usize, form: usize) -> Sought
+    requires { ⌜ now table ≡ fieldTable ⌝ }
     ensures { λ r. ⌜ r ≡ soughtOf (now (card .entry)) number form ⌝ }
 {
     if card.len() == 0 {
@@ -86,6 +107,6 @@ pub fn seek(card: &[u8], number: usize, form: usize) -> Sought
     match code {
         Code::Unknown => refused(5, 1, 1),
         Code::Passed => refused(13, 0, 0),
-        Code::Read(k) => under_form(k, number, form),
+        Code::Read(k) => under_form(table, k, number, form),
     }
 }

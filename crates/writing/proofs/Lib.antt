@@ -1,5 +1,4 @@
 pub mod Ways
 pub mod Back
 pub mod Agreed
-pub mod Edge
 pub mod Printed

@@ -32,14 +32,14 @@ offence-unread-requires c κs = search needs
 
 returns : tie.Need-returns
 unfolding fieldOffence
-returns c = c .number-of .ensures ∙ ap numberOf (c .before .judge .ensures) ∙ sym (ap (λ x. fieldOffence (c .before .before .before .before .before .args .layout) x (now (c .before .before .before .before .before .args .card)) (c .before .before .before .before .before .args .f)) (c .before .before .enum-told .given .1))
+returns c = c .number-of .ensures ∙ ap numberOf (c .before .judge .ensures) ∙ sym (ap (λ x. fieldOffence (c .before .before .before .before .before .before .args .layout) x (now (c .before .before .before .before .before .before .args .card)) (c .before .before .before .before .before .before .args .f)) (c .before .before .enum-told .given .1))
 
 returns-2 : tie.Need-returns-2
 unfolding fieldOffence
-returns-2 c = c .number-of2 .ensures ∙ ap numberOf (c .before .judge2 .ensures) ∙ sym (ap (λ x. fieldOffence (c .before .before .before .before .before .args .layout) x (now (c .before .before .before .before .before .args .card)) (c .before .before .before .before .before .args .f)) (c .before .before .enum-told2 .given .1))
+returns-2 c = c .number-of2 .ensures ∙ ap numberOf (c .before .judge2 .ensures) ∙ sym (ap (λ x. fieldOffence (c .before .before .before .before .before .before .args .layout) x (now (c .before .before .before .before .before .before .args .card)) (c .before .before .before .before .before .before .args .f)) (c .before .before .enum-told2 .given .1))
 
 returns-3 : tie.Need-returns-3
-returns-3 c = c .offence-unread .ensures ∙ sym (ap (λ x. fieldOffence (c .before .before .before .before .args .layout) x (now (c .before .before .before .before .args .card)) (c .before .before .before .before .args .f)) (c .before .enum-told3 .given .1))
+returns-3 c = c .offence-unread .ensures ∙ sym (ap (λ x. fieldOffence (c .before .before .before .before .before .args .layout) x (now (c .before .before .before .before .before .args .card)) (c .before .before .before .before .before .args .f)) (c .before .enum-told3 .given .1))
 
 pub field-offence-spec : {M : Type 1} → statement M
 field-offence-spec =

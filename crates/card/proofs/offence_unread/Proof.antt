@@ -10,7 +10,7 @@ is-coordinate-requires : tie.Need-is-coordinate-requires
 is-coordinate-requires c κs = search needs
 
 returns : tie.Need-returns
-returns c = sym (unread-passed _ (now (c .before .before .before .args .card)) (c .before .before .before .args .f) (sym (c .before .is-coordinate .ensures) ∙ c .if1 .taken))
+returns c = sym (unread-passed _ (now (c .before .before .before .before .args .card)) (c .before .before .before .before .args .f) (sym (c .before .is-coordinate .ensures) ∙ c .if1 .taken))
 
 judge-requires : tie.Need-judge-requires
 judge-requires c κs = search needs
@@ -19,7 +19,7 @@ number-of-requires : tie.Need-number-of-requires
 number-of-requires c κs = search needs
 
 returns-2 : tie.Need-returns-2
-returns-2 c = c .number-of .ensures ∙ sym (unread-judged _ (now (c .before .before .before .before .before .args .card)) (c .before .before .before .before .before .args .f) (sym (c .before .before .before .is-coordinate .ensures) ∙ c .before .before .if1 .left) _ (c .before .judge .ensures))
+returns-2 c = c .number-of .ensures ∙ sym (unread-judged _ (now (c .before .before .before .before .before .before .args .card)) (c .before .before .before .before .before .before .args .f) (sym (c .before .before .before .is-coordinate .ensures) ∙ c .before .before .if1 .left) _ (c .before .judge .ensures))
 
 pub offence-unread-spec : {M : Type 1} → statement M
 offence-unread-spec =

@@ -7,24 +7,27 @@ use lib.ListN.{length, drop}
 use Rattle.codes.specs.Codes.{codes, placeIn}
 use Rattle.codes.specs.Codes.{patternCount, allCodes}
 use Rattle.codes.proofs.Walk.{hit, on, over}
-use Rattle.codes.proofs.Places.{codes-count}
+use Rattle.codes.proofs.Places.{codes-count, codes-length}
 use Rattle.codes.proofs.place_in.Statement.{statement}
 use Rattle.codes.proofs.place_in.Tie as tie
 
 abbrev Inv-loop : tie.InvT-loop
-Inv-loop table code number₀ number = (number ≤ patternCount) × (table ≡ allCodes) × (length code ≡ 5) × (placeIn codes code ≡ number + placeIn (drop number codes) code)
+Inv-loop table code count number₀ number = (count ≡ patternCount) × (number ≤ patternCount) × (table ≡ allCodes) × (length code ≡ 5) × (placeIn codes code ≡ number + placeIn (drop number codes) code)
 
 abbrev μ-loop : tie.MeasureT-loop
-μ-loop table code number₀ number = patternCount - number
+μ-loop table code count number₀ number = patternCount - number
+
+start-of-requires : tie.Need-start-of-requires Inv-loop μ-loop
+start-of-requires c κs = search needs
 
 loop-holds : tie.Need-loop-holds Inv-loop μ-loop
-loop-holds c = search needs
+loop-holds c = (omega (arith, codes-length _ (c .before .before .before .pre .0)), c .start-of .ensures .0, search needs, search needs, c .start-of .ensures .1)
 
 fits-pattern-requires : tie.Need-fits-pattern-requires Inv-loop μ-loop
 fits-pattern-requires c κs = search needs
 
 returns : tie.Need-returns Inv-loop μ-loop
-returns c = sym (hit codes _ _ (omega (arith, codes-count)) (sym (c .before .fits-pattern .ensures) ∙ c .if1 .taken) (c .before .before .before .loop .inv .3))
+returns c = sym (hit codes _ _ (omega (arith, codes-count)) (sym (c .before .fits-pattern .ensures) ∙ c .if1 .taken) (c .before .before .before .loop .inv .4))
 
 add-number : tie.Need-add-number Inv-loop μ-loop
 add-number c = omega arith
@@ -33,10 +36,10 @@ loop-less : tie.Need-loop-less Inv-loop μ-loop
 loop-less c = omega arith
 
 loop-again : tie.Need-loop-again Inv-loop μ-loop
-loop-again c = (omega arith, search needs, search needs, on codes _ _ (omega (arith, codes-count)) (sym (c .before .fits-pattern .ensures) ∙ c .if1 .left) (c .before .before .before .loop .inv .3))
+loop-again c = (search needs, omega arith, search needs, search needs, on codes _ _ (omega (arith, codes-count)) (sym (c .before .fits-pattern .ensures) ∙ c .if1 .left) (c .before .before .before .loop .inv .4))
 
 returns-2 : tie.Need-returns-2 Inv-loop μ-loop
-returns-2 c = sym (over codes _ _ (omega (arith, codes-count)) (c .before .loop .inv .3))
+returns-2 c = sym (over codes _ _ (omega (arith, codes-count)) (c .before .loop .inv .4))
 
 pub place-in-spec : {M : Type 1} → statement M
 place-in-spec =
@@ -44,6 +47,7 @@ place-in-spec =
     (tie.spec
     Inv-loop
     μ-loop
+    start-of-requires
     loop-holds
     fits-pattern-requires
     returns
