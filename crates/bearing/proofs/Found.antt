@@ -28,8 +28,8 @@ use Rattle.packing.proofs.Bits.{byte-printed, printable-take, printable-drop}
 use Rattle.packing.proofs.Steps.{whole-class, end-of-text}
 use Rattle.keys.specs.Roles.{Source, digit, whole, serial, waypoint, only, nothing, Role, ties, lineFor}
 use Rattle.keys.specs.Keys.{isNone, between, wholeKey, wholeIn, paired, keyIn, classAt, keyAt}
-use Rattle.keys.specs.Lines.{ofKind, marked}
-use Rattle.keys.proofs.Steps.{unmarked, mark-tells}
+use Rattle.keys.specs.Lines.{ofKind, marked, unmarked}
+use Rattle.keys.proofs.Steps.{mark-tells}
 use Rattle.keys.proofs.Table.{rule, line-of-kind}
 
 -- a number that is there is below a bound

@@ -10,8 +10,7 @@ use lib.ListN.{take}
 use borrow.Author.Tests.{eq-eqb, ne-eqb}
 use Rattle.lists.specs.Parts.{alike}
 use Rattle.keys.specs.Keys.{isNone, wholeIn}
-use Rattle.keys.specs.Lines.{marked}
-use Rattle.keys.proofs.Steps.{unmarked}
+use Rattle.keys.specs.Lines.{marked, unmarked}
 use Rattle.bearing.proofs.Found.{Small, shape, small-mark}
 
 -- no number is marked 0

@@ -17,7 +17,7 @@ use Rattle.header_laws.proofs.Rows.{fine-exactly}
 use Rattle.header_laws.proofs.Exactly.{accepted-exactly}
 use Rattle.gathering.specs.Numbers.{pointsTo}
 use Rattle.gathering.specs.Gathered.{Gathered, Counted}
-use Rattle.faults.specs.Ready.{Ready}
+use Rattle.breaking.specs.Ready.{Ready}
 
 module _ (h : List ℕ) (accepted : refusalOf h ≡ Accepted) where
   pub few-cards : cardsIn h ≤ 800
@@ -27,16 +27,16 @@ module _ (h : List ℕ) (accepted : refusalOf h ≡ Accepted) where
   unfolding cardAt cardsIn
   eighty c l = part-length 80 h c (omega (arith, card-ends h c l, mul-comm c 80))
 
-  printed : (c : ℕ) → c < cardsIn h → printable (cardAt h c) ≡ true
+  pub printed : (c : ℕ) → c < cardsIn h → printable (cardAt h c) ≡ true
   printed c l =
       let fine = accepted-exactly h .0 accepted .1 c (omega arith) in
       let clean = fine-exactly h c l .0 fine in
       bad-none (cardAt h c) (omega (arith, clean .printable, eighty c l))
 
-  pub ready : (numbers tags : List ℕ) (n : ℕ) (heads next waypoints : List ℕ) (points : ℕ)
-      → Gathered h (80 * cardsIn h) numbers tags n heads next → Counted numbers n waypoints → points ≡ pointsTo h (cardsIn h)
-      → Ready h numbers tags n heads next waypoints points
-  ready numbers tags n heads next waypoints points g k e = record {
+  pub ready : (numbers tags : List ℕ) (n : ℕ) (heads next times waypoints : List ℕ) (points : ℕ)
+      → Gathered h (80 * cardsIn h) numbers tags n heads next times → Counted numbers n waypoints → points ≡ pointsTo h (cardsIn h)
+      → Ready h numbers tags n heads next times waypoints points
+  ready numbers tags n heads next times waypoints points g k e = record {
     few = few-cards;
     printed = printed;
     gathered = g;

@@ -2,9 +2,9 @@
 use Prim.Native.Nat.{ℕ, zero, suc, _+_, _*_, _/_, _%_, _≤_, _<_}
 use native.Mathlib.Numerals.{add-one}
 use native.Mathlib.Omega.{arith}
-use mathlib.Core.Path.{_≡_, refl, sym, ap, ap₂, _∙_}
-use mathlib.Core.Bool.{Bool, true, false, false≢true, cond, _&&_, _||_, not}
-use mathlib.Core.List.{List, [], _∷_, _++_, map, flatMap, map-append, map-map, append-assoc, append-nil}
+use mathlib.Core.Path.{_≡_, refl, sym, ap, _∙_}
+use mathlib.Core.Bool.{Bool, true, false, false≢true, cond, _&&_, _||_}
+use mathlib.Core.List.{List, [], _∷_, _++_, map, flatMap, map-append, map-map, append-assoc}
 use mathlib.Core.List.{List·Memᴰ, List·Memᴰ·head, List·Memᴰ·tail}
 use lib.Dec.{eqb}
 use lib.ListN.{length, getD, length-map}
@@ -17,19 +17,7 @@ use Rattle.keys.specs.Keys.{isNone, holdsKey}
 use Rattle.tying.specs.Columns.{canTie, tieColumns, statesOwn, statesCount}
 use Rattle.tying.proofs.Tied.{Idle, idle, at-most-five}
 use Rattle.gathering.proofs.Slots.{kept-within, none-at-zero}
-use Rattle.ties.specs.Faults.{
-  undefined,
-  redefined,
-  ambiguous,
-  statesVessel,
-  contradicted,
-  miscounted,
-  brokenOn,
-  broken,
-  entryOf,
-  faults,
-  entries,
-}
+use Rattle.broken.specs.Faults.{undefined, redefined, ambiguous, statesVessel, contradicted, miscounted, brokenOn, broken, entryOf, faults, entries}
 use Rattle.tie_laws.proofs.Sites.{isSite, at-site}
 use Rattle.tie_laws.proofs.Complete.{listOf}
 use Rattle.tie_laws.proofs.CardByCard.{sitesOf, kept-runs, brokenSite, siteEntry, entriesOn, card-by-card}

@@ -1,6 +1,6 @@
 -- Entries stored one after the other, as far as they fit, are laid.
-use Prim.Native.Nat.{ℕ, zero, suc, _+_, _*_, _≤_}
-use native.Mathlib.Nat.{add-zero, add-assoc, mul-suc, mul-zero}
+use Prim.Native.Nat.{ℕ, suc, _+_, _*_, _≤_}
+use native.Mathlib.Nat.{add-zero}
 use native.Mathlib.Numerals.{add-one}
 use native.Mathlib.Decide.{decLe}
 use native.Mathlib.Omega.{arith}
@@ -13,7 +13,7 @@ use Rattle.lists.specs.Count.{bit}
 use Rattle.lists.specs.Parts.{keep}
 use Rattle.lists.specs.Laid.{laid, stored}
 use Rattle.lists.proofs.Laying.{laid-nothing, laid-step, stored-sets, stored-full}
-use Rattle.faults.specs.declared.Broken.{Broken}
+use Rattle.breaking.specs.declared.Broken.{Broken}
 use Rattle.faults.specs.Stored.{joined, storedAll, Triples, entriesFor}
 
 -- two runs of entries, one after the other

@@ -1,21 +1,23 @@
 -- One column more, one card more.
-use Prim.Native.Nat.{ℕ, zero, suc, _+_, _*_, _-_, _≤_, _<_}
-use native.Mathlib.Nat.{add-zero}
+use Prim.Native.Nat.{ℕ, zero, suc, _+_, _-_, _<_}
 use native.Mathlib.Numerals.{add-one}
 use native.Mathlib.Omega.{arith}
 use mathlib.Core.Path.{_≡_, refl, sym, ap, _∙_}
-use mathlib.Core.List.{List, [], _∷_, _++_, flatMap, List·Memᴰ, List·Memᴰ·head, List·Memᴰ·tail}
+use mathlib.Core.Bool.{Bool, true, false}
+use mathlib.Core.List.{List, [], _∷_, _++_, map, flatMap, List·Memᴰ, List·Memᴰ·head, List·Memᴰ·tail}
 use lib.ListN.{length, getD, length-append}
-use Rattle.lists.specs.Parts.{kept, upTo}
+use Rattle.lists.specs.Parts.{keep, kept, upTo}
 use Rattle.lists.proofs.Keeping.{out-of-kept, out-of-upTo}
 use Rattle.lists.proofs.Entries.{entries-more}
 use Rattle.forms.specs.Cards.{cardAt, layoutOf}
 use Rattle.tying.specs.Columns.{canTie, tieColumns}
-use Rattle.faults.specs.declared.Broken.{Broken}
+use Rattle.broken.specs.Faults.{brokenOn, broken}
+use Rattle.breaking.specs.declared.Broken.{Broken}
+use Rattle.breaking.specs.Kinds.{brokenFor}
 use Rattle.faults.specs.Stored.{storedAll, entriesFor}
-use Rattle.faults.specs.Listed.{slotEntries, cardEntries, brokenFor}
+use Rattle.faults.specs.Listed.{columnEntries, slotEntries}
+use Rattle.faults.proofs.Columns.{of-column}
 use Rattle.faults.proofs.Stored.{stored-append}
-use Rattle.faults.proofs.Rows.{of-column}
 
 -- entries more, of whatever they are
 pub run-more : (g : ℕ → List (List ℕ)) (l₀ l l′ : List ℕ) (found m r i : ℕ)

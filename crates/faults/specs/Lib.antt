@@ -1,5 +1,2 @@
 pub mod Stored
 pub mod Listed
-pub mod Asked
-pub mod Ready
-pub mod Answer

@@ -3,11 +3,9 @@ use Prim.Native.Nat.{ℕ, _+_}
 use mathlib.Core.List.{List, [], _∷_, map, flatMap}
 use lib.ListN.{getD}
 use Rattle.lists.specs.Parts.{kept, upTo}
-use Rattle.forms.specs.Cards.{cardAt, cardsIn, layoutOf}
+use Rattle.forms.specs.Cards.{cardAt, layoutOf}
 use Rattle.tying.specs.Columns.{tieColumns}
-use Rattle.ties.specs.Faults.{broken}
-use Rattle.ties.specs.Faults as kind
-use Rattle.faults.specs.declared.Broken.{Broken}
+use Rattle.broken.specs.Faults.{broken}
 
 -- of a column of the card with a number, from 0
 unfoldable pub columnEntries : List ℕ → ℕ → ℕ → List (List ℕ)
@@ -24,13 +22,3 @@ cardEntries h c = flatMap (slotEntries h c) (upTo 5)
 -- of the first cards
 unfoldable pub entriesTo : List ℕ → ℕ → List (List ℕ)
 entriesTo h n = flatMap (cardEntries h) (upTo n)
-
--- which kinds of fault a column of a card of the header has
-unfoldable pub brokenFor : List ℕ → List ℕ → ℕ → Broken
-brokenFor h s column = record {
-  undefined = kind.undefined h s column;
-  redefined = kind.redefined h s column;
-  ambiguous = kind.ambiguous h s column;
-  contradicted = kind.contradicted h s column;
-  miscounted = kind.miscounted h s column;
-}

@@ -5,7 +5,7 @@ use mathlib.Core.List.{List, [], _∷_, _++_}
 use lib.ListN.{length}
 use Rattle.lists.specs.Laid.{stored}
 use Rattle.lists.specs.Parts.{keep}
-use Rattle.faults.specs.declared.Broken.{Broken}
+use Rattle.breaking.specs.declared.Broken.{Broken}
 
 -- all of them as one list
 unfoldable pub joined : List (List ℕ) → List ℕ

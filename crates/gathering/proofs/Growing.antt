@@ -1,6 +1,6 @@
 -- One definition more, one card more.
-use Prim.Native.Nat.{ℕ, zero, suc, _+_, _*_, _-_, _/_, _%_, _<_, _≤_}
-use native.Mathlib.Nat.{add-zero, add-assoc, mul-zero}
+use Prim.Native.Nat.{ℕ, _+_, _*_, _-_, _/_, _%_, _<_}
+use native.Mathlib.Nat.{add-zero, add-assoc}
 use native.Mathlib.Omega.{arith}
 use mathlib.Core.Path.{_≡_, refl, sym, ap, subst, _∙_}
 use mathlib.Core.Bool.{Bool, true, false, cond}
@@ -19,16 +19,7 @@ use Rattle.tying.proofs.Tied.{idle, Idle}
 use Rattle.tally.specs.Chains.{room, buckets, Linked}
 use Rattle.tally.proofs.Adding.{zeros-linked}
 use Rattle.gathering.specs.Numbers.{numberOn, tagOn, numberAt, tagAt, passing}
-use Rattle.gathering.specs.Gathered.{
-  Test,
-  Sparing,
-  entriesPassing,
-  columnPasses,
-  onColumn,
-  onSlots,
-  Grown,
-  Gathered,
-}
+use Rattle.gathering.specs.Gathered.{Test, Sparing, entriesPassing, columnPasses, onColumn, onSlots, Grown, Gathered}
 use Rattle.gathering.proofs.Slots.{by-slots}
 
 -- one entry more
@@ -52,13 +43,13 @@ entry-more numbers tags n number tag a b test =
     )
 
 -- a column of a card
-module _ (s numbers tags heads next : List ℕ) (n column number k : ℕ) (card : k ≡ layoutOf s)
-    (is : number ≡ packedBy defines k s column) (l : Linked numbers n heads next) (room-for : length tags ≡ room) where
+module _ (s numbers tags heads next times : List ℕ) (n column number k : ℕ) (card : k ≡ layoutOf s)
+    (is : number ≡ packedBy defines k s column) (l : Linked numbers n heads next times) (room-for : length tags ≡ room) where
   number-is : numberOn s column ≡ number
   unfolding numberOn
-  number-is = sym (is ∙ ap (λ j. packedBy defines j s column) card)
+  number-is = rw (is, card)
 
-  pub no-definition : number ≡ 0 → Grown (onColumn s column) numbers tags n numbers tags n heads next
+  pub no-definition : number ≡ 0 → Grown (onColumn s column) numbers tags n numbers tags n heads next times
   unfolding onColumn columnPasses
   no-definition z = record {
     linked = l;
@@ -66,11 +57,11 @@ module _ (s numbers tags heads next : List ℕ) (n column number k : ℕ) (card 
     passes = λ test sparing. rw (number-is, z, sparing (tagOn s)) (sym (add-zero (entriesPassing test numbers tags n)));
   }
 
-  pub a-definition : n < room → (tag : ℕ) → tag ≡ tagOn s → (numbers′ tags′ heads′ next′ : List ℕ)
-      → numbers′ ≡ set numbers n number → tags′ ≡ set tags n tag → Linked numbers′ (n + 1) heads′ next′
-      → Grown (onColumn s column) numbers tags n numbers′ tags′ (n + 1) heads′ next′
+  pub a-definition : n < room → (tag : ℕ) → tag ≡ tagOn s → (numbers′ tags′ heads′ next′ times′ : List ℕ)
+      → numbers′ ≡ set numbers n number → tags′ ≡ set tags n tag → Linked numbers′ (n + 1) heads′ next′ times′
+      → Grown (onColumn s column) numbers tags n numbers′ tags′ (n + 1) heads′ next′ times′
   unfolding onColumn columnPasses
-  a-definition below tag vessel numbers′ tags′ heads′ next′ e f more = record {
+  a-definition below tag vessel numbers′ tags′ heads′ next′ times′ e f more = record {
     linked = more;
     tags-room = ap length f ∙ length-set tags n tag ∙ room-for;
     passes = λ test sparing. rw (e, f, number-is, ← vessel)
@@ -78,21 +69,21 @@ module _ (s numbers tags heads next : List ℕ) (n column number k : ℕ) (card 
   }
 
 -- the columns of a card that can carry a tie, one after the other
-pub no-slots : (s numbers tags heads next : List ℕ) (n : ℕ) → Linked numbers n heads next → length tags ≡ room
-    → Grown (onSlots s 0) numbers tags n numbers tags n heads next
+pub no-slots : (s numbers tags heads next times : List ℕ) (n : ℕ) → Linked numbers n heads next times → length tags ≡ room
+    → Grown (onSlots s 0) numbers tags n numbers tags n heads next times
 unfolding onSlots count
-no-slots s numbers tags heads next n l r = record {
+no-slots s numbers tags heads next times n l r = record {
   linked = l;
   tags-room = r;
   passes = λ test sparing. sym (add-zero (entriesPassing test numbers tags n));
 }
 
-pub slot-more : (s a ta b tb c tc heads next heads′ next′ : List ℕ) (slot column n m r : ℕ)
+pub slot-more : (s a ta b tb c tc heads next times heads′ next′ times′ : List ℕ) (slot column n m r : ℕ)
     → column ≡ getD (tieColumns (layoutOf s)) slot 0
-    → Grown (onSlots s slot) a ta n b tb m heads next → Grown (onColumn s column) b tb m c tc r heads′ next′
-    → Grown (onSlots s (slot + 1)) a ta n c tc r heads′ next′
+    → Grown (onSlots s slot) a ta n b tb m heads next times → Grown (onColumn s column) b tb m c tc r heads′ next′ times′
+    → Grown (onSlots s (slot + 1)) a ta n c tc r heads′ next′ times′
 unfolding onSlots onColumn
-slot-more s a ta b tb c tc heads next heads′ next′ slot column n m r e g q = record {
+slot-more s a ta b tb c tc heads next times heads′ next′ times′ slot column n m r e g q = record {
   linked = q .linked;
   tags-room = q .tags-room;
   passes = λ test sparing. rw (
@@ -128,21 +119,21 @@ passing-more test sparing h c =
         let b : (80 * c + j) % 80 ≡ j = omega arith in
         rw (a, b)
 
-pub card-more : (h s a ta b tb heads next heads′ next′ : List ℕ) (c n m : ℕ) → s ≡ cardAt h c
-    → Gathered h (80 * c) a ta n heads next → Grown (onSlots s 5) a ta n b tb m heads′ next′
-    → Gathered h (80 * (c + 1)) b tb m heads′ next′
-card-more h s a ta b tb heads next heads′ next′ c n m e g q = record {
+pub card-more : (h s a ta b tb heads next times heads′ next′ times′ : List ℕ) (c n m : ℕ) → s ≡ cardAt h c
+    → Gathered h (80 * c) a ta n heads next times → Grown (onSlots s 5) a ta n b tb m heads′ next′ times′
+    → Gathered h (80 * (c + 1)) b tb m heads′ next′ times′
+card-more h s a ta b tb heads next times heads′ next′ times′ c n m e g q = record {
   linked = q .linked;
   tags-room = q .tags-room;
   passes = λ test sparing.
       q .passes test sparing ∙ rw (g .passes test sparing, e) (sym (passing-more test sparing h c));
 }
 
-pub no-cards : (h a ta heads next : List ℕ) → a ≡ replicate room 0 → ta ≡ replicate room 0 → heads ≡ replicate buckets 0
-    → next ≡ replicate room 0 → Gathered h (80 * 0) a ta 0 heads next
+pub no-cards : (h a ta heads next times : List ℕ) → a ≡ replicate room 0 → ta ≡ replicate room 0 → heads ≡ replicate buckets 0
+    → next ≡ replicate room 0 → times ≡ replicate room 0 → Gathered h (80 * 0) a ta 0 heads next times
 unfolding entriesPassing passing count
-no-cards h a ta heads next p q r t = record {
-  linked = rw (p, r, t) zeros-linked;
+no-cards h a ta heads next times p q r t u = record {
+  linked = rw (p, r, t, u) zeros-linked;
   tags-room = ap length q ∙ length-replicate {A = ℕ} room 0;
   passes = λ test sparing. refl;
 }
@@ -161,10 +152,10 @@ unfolding tagOn
 tag-is s k n e q = q ∙ ap (λ j. vesselBy j s) e
 
 -- where the counting ends
-pub all-slots : (s a ta b tb heads next : List ℕ) (k n m : ℕ) → k ≡ 5
-    → Grown (onSlots s k) a ta n b tb m heads next → Grown (onSlots s 5) a ta n b tb m heads next
-all-slots s a ta b tb heads next k n m e g = subst (λ (j : ℕ). Grown (onSlots s j) a ta n b tb m heads next) e g
+pub all-slots : (s a ta b tb heads next times : List ℕ) (k n m : ℕ) → k ≡ 5
+    → Grown (onSlots s k) a ta n b tb m heads next times → Grown (onSlots s 5) a ta n b tb m heads next times
+all-slots s a ta b tb heads next times k n m e g = subst (λ (j : ℕ). Grown (onSlots s j) a ta n b tb m heads next times) e g
 
-pub all-cards : (h a ta heads next : List ℕ) (c d n : ℕ) → c ≡ d
-    → Gathered h (80 * c) a ta n heads next → Gathered h (80 * d) a ta n heads next
-all-cards h a ta heads next c d n e g = subst (λ (j : ℕ). Gathered h (80 * j) a ta n heads next) e g
+pub all-cards : (h a ta heads next times : List ℕ) (c d n : ℕ) → c ≡ d
+    → Gathered h (80 * c) a ta n heads next times → Gathered h (80 * d) a ta n heads next times
+all-cards h a ta heads next times c d n e g = subst (λ (j : ℕ). Gathered h (80 * j) a ta n heads next times) e g

@@ -34,16 +34,16 @@ unfoldable pub onSlots : List ℕ → ℕ → Test → ℕ
 onSlots s k test = count (λ i. columnPasses s (getD (tieColumns (layoutOf s)) i 0) test) k
 
 -- n entries became m linked ones, of which so many more pass, whatever is asked of number and vessel digit
-pub record Grown (more : Test → ℕ) (numbers tags : List ℕ) (n : ℕ) (numbers′ tags′ : List ℕ) (m : ℕ) (heads next : List ℕ)
+pub record Grown (more : Test → ℕ) (numbers tags : List ℕ) (n : ℕ) (numbers′ tags′ : List ℕ) (m : ℕ) (heads next times : List ℕ)
     : Type 0 where
-  pub linked : Linked numbers′ m heads next
+  pub linked : Linked numbers′ m heads next times
   pub tags-room : length tags′ ≡ room
   pub passes : (test : Test) → Sparing test
       → entriesPassing test numbers′ tags′ m ≡ entriesPassing test numbers tags n + more test
 
 -- n linked entries are the definitions of the first places
-pub record Gathered (h : List ℕ) (places : ℕ) (numbers tags : List ℕ) (n : ℕ) (heads next : List ℕ) : Type 0 where
-  pub linked : Linked numbers n heads next
+pub record Gathered (h : List ℕ) (places : ℕ) (numbers tags : List ℕ) (n : ℕ) (heads next times : List ℕ) : Type 0 where
+  pub linked : Linked numbers n heads next times
   pub tags-room : length tags ≡ room
   pub passes : (test : Test) → Sparing test → entriesPassing test numbers tags n ≡ passing test h places
 

@@ -4,7 +4,7 @@ use mathlib.Core.List.{List}
 use mathlib.Core.Bool.{Bool, cond, _&&_}
 use lib.Dec.{eqb, leb, ltb}
 use Rattle.lists.specs.Count.{count}
-use Rattle.forms.specs.Cards.{cardAt, cardsIn, layoutOf}
+use Rattle.forms.specs.Cards.{cardAt, layoutOf}
 use Rattle.packing.specs.Packing.{room}
 use Rattle.keys.specs.Roles.{defines, H0101}
 use Rattle.keys.specs.Lines.{packedBy, vesselBy}

@@ -41,6 +41,7 @@ fn gather_column(
     tags: &mut [u8; ROOM],
     heads: &mut [u16; BUCKETS],
     next: &mut [u16; ROOM],
+    times: &mut [u16; ROOM],
     n: usize,
     card: &[u8],
     layout: usize,
@@ -49,17 +50,17 @@ fn gather_column(
     requires { ⌜ layout ≡ layoutOf (now card) ⌝ }
     requires { ⌜ n < room ⌝ }
     requires { ⌜ length (now tags) ≡ room ⌝ }
-    requires { ⌜ Linked (now numbers) n (now heads) (now next) ⌝ }
+    requires { ⌜ Linked (now numbers) n (now heads) (now next) (now times) ⌝ }
     ensures few { λ r. ⌜ r ≤ n + 1 ⌝ }
     ensures grown { λ r. ⌜ Grown (onColumn (now (card .entry)) column) (now (numbers .entry)) (now (tags .entry)) n
-        (now (numbers .exit)) (now (tags .exit)) r (now (heads .exit)) (now (next .exit)) ⌝ }
+        (now (numbers .exit)) (now (tags .exit)) r (now (heads .exit)) (now (next .exit)) (now (times .exit)) ⌝ }
 {
     let number = keys::defined_by(card, layout, column);
     if number == 0 {
         return n;
     }
     let tag = tag_of(card, layout);
-    tally::add(numbers, tags, heads, next, n, number, tag);
+    tally::add(numbers, tags, heads, next, times, n, number, tag);
     n + 1
 }
 
@@ -69,22 +70,23 @@ fn gather_card(
     tags: &mut [u8; ROOM],
     heads: &mut [u16; BUCKETS],
     next: &mut [u16; ROOM],
+    times: &mut [u16; ROOM],
     n: usize,
     card: &[u8],
 ) -> usize
     requires { ⌜ n + 5 ≤ room ⌝ }
     requires { ⌜ length (now tags) ≡ room ⌝ }
-    requires { ⌜ Linked (now numbers) n (now heads) (now next) ⌝ }
+    requires { ⌜ Linked (now numbers) n (now heads) (now next) (now times) ⌝ }
     ensures few { λ r. ⌜ r ≤ n + 5 ⌝ }
     ensures grown { λ r. ⌜ Grown (onSlots (now (card .entry)) 5) (now (numbers .entry)) (now (tags .entry)) n
-        (now (numbers .exit)) (now (tags .exit)) r (now (heads .exit)) (now (next .exit)) ⌝ }
+        (now (numbers .exit)) (now (tags .exit)) r (now (heads .exit)) (now (next .exit)) (now (times .exit)) ⌝ }
 {
     let layout = forms::layout_of(card);
     let mut m = n;
     let mut slot: usize = 0;
     while slot < SLOTS {
         let column = tying::tie_column(layout, slot);
-        m = gather_column(numbers, tags, heads, next, m, card, layout, column);
+        m = gather_column(numbers, tags, heads, next, times, m, card, layout, column);
         slot += 1;
     }
     m
@@ -97,14 +99,16 @@ pub fn gather(
     tags: &mut [u8; ROOM],
     heads: &mut [u16; BUCKETS],
     next: &mut [u16; ROOM],
+    times: &mut [u16; ROOM],
 ) -> usize
     requires { ⌜ cardsIn (now header) ≤ 800 ⌝ }
     requires { ⌜ now numbers ≡ replicate room 0 ⌝ }
     requires { ⌜ now tags ≡ replicate room 0 ⌝ }
     requires { ⌜ now heads ≡ replicate buckets 0 ⌝ }
     requires { ⌜ now next ≡ replicate room 0 ⌝ }
+    requires { ⌜ now times ≡ replicate room 0 ⌝ }
     ensures { λ r. ⌜ Gathered (now (header .entry)) (80 * cardsIn (now (header .entry))) (now (numbers .exit)) (now (tags .exit)) r
-        (now (heads .exit)) (now (next .exit)) ⌝ }
+        (now (heads .exit)) (now (next .exit)) (now (times .exit)) ⌝ }
 {
     let count = header.len() / CARD;
     let mut n: usize = 0;
@@ -112,7 +116,7 @@ pub fn gather(
     while place < count {
         let from = place * CARD;
         let card = &header[from..from + CARD];
-        n = gather_card(numbers, tags, heads, next, n, card);
+        n = gather_card(numbers, tags, heads, next, times, n, card);
         place += 1;
     }
     n

@@ -33,7 +33,7 @@ use Rattle.packing.specs.Packing.{isWhole, packed, wholeOffered}
 use Rattle.packing.proofs.Steps.{none-packed, offered-none, offered-whole}
 use Rattle.keys.specs.Roles.{hasVessel}
 use Rattle.keys.specs.Keys.{isNone, between, wholeKey, wholeIn, paired, keyIn}
-use Rattle.keys.specs.Lines.{meant, ofKind, vesselBy, marked}
+use Rattle.keys.specs.Lines.{meant, ofKind, vesselBy, marked, unmarked}
 use Rattle.keys.specs.declared.Source.{Source}
 use Rattle.keys.specs.declared.Source.the-variants as held
 
@@ -112,10 +112,6 @@ whole-marked s first last t n r e q h =
     h ∙ ap (λ x. marked (wholeKey (wholeReading x))) (q ∙ ap (numberOf false) e)
 
 -- a mark tells the number
-abbrev pub unmarked : ℕ → List ℕ
-unmarked zero = []
-unmarked (suc n) = n ∷ []
-
 pub mark-tells : (r : Reading) → wholeKey r ≡ unmarked (marked (wholeKey r))
 unfolding wholeKey marked
 mark-tells (Held (Whole (pos n))) = refl

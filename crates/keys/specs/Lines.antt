@@ -1,5 +1,5 @@
 -- The lines of the table as the code holds them, and what a column of a card does as one number.
-use Prim.Native.Nat.{ℕ, suc, _-_}
+use Prim.Native.Nat.{ℕ, zero, suc, _-_}
 use mathlib.Core.List.{List, [], _∷_}
 use mathlib.Core.Bool.{Bool, true, cond}
 use lib.Dec.{eqb}
@@ -56,3 +56,8 @@ vesselBy k s = cond (hasVessel k) (byteIn s 4 - 48) noVessel
 unfoldable pub marked : List ℕ → ℕ
 marked [] = 0
 marked (n ∷ ns) = suc n
+
+-- and back
+abbrev pub unmarked : ℕ → List ℕ
+unmarked zero = []
+unmarked (suc n) = n ∷ []

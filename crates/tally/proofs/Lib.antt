@@ -1,3 +1,3 @@
 pub mod Adding
-pub mod Lasting
+pub mod Only
 pub mod Walking

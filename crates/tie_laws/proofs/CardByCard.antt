@@ -10,7 +10,7 @@ use Rattle.lists.specs.Parts.{keep, kept, upTo}
 use Rattle.lists.proofs.Keeping.{kept-append, kept-map, kept-same, out-of-kept, out-of-upTo}
 use Rattle.lists.proofs.Entries.{entries-more}
 use Rattle.forms.specs.Cards.{cardAt, cardsIn, layoutOf}
-use Rattle.ties.specs.Faults.{broken, triples, brokenAt, entryOf, faults}
+use Rattle.broken.specs.Faults.{broken, triples, brokenAt, entryOf, faults}
 use Rattle.tie_laws.proofs.Sites.{Within, isSite, at-site}
 use Rattle.tie_laws.proofs.Complete.{listOf}
 

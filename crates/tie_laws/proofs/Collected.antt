@@ -11,7 +11,7 @@ use Rattle.lists.proofs.Counting.{count-same}
 use Rattle.lists.proofs.Keeping.{kept-map, length-kept}
 use Rattle.keys.specs.Roles.{defines}
 use Rattle.keys.specs.Keys.{classAt, keyAt, holdsKey, definesKey, vesselOf, contradict}
-use Rattle.ties.specs.Definitions.{places, cardOf, columnOf, definedAt, definitionsOf, contradictionsOf}
+use Rattle.broken.specs.Definitions.{places, cardOf, columnOf, definedAt, definitionsOf, contradictionsOf}
 
 -- a definition: class, key, and the vessel digit of its card
 pub record Definition : Type 0 where

@@ -16,7 +16,7 @@ use Rattle.lists.proofs.Rising.{rising-kept, rising-upTo, rising-order}
 use Rattle.lists.proofs.Laying.{fitting-entries, length-laid, laid-entry, laid-past}
 use Rattle.lists.proofs.Entries.{length-entries, part-entries}
 use Rattle.forms.specs.Cards.{cardsIn}
-use Rattle.ties.specs.Faults.{kinds, broken, triples, brokenAt, entryOf, faults, entries}
+use Rattle.broken.specs.Faults.{kinds, broken, triples, brokenAt, entryOf, faults, entries}
 use Rattle.tie_laws.proofs.Sites.{broken-bounds}
 
 -- the list as entries of three numbers: the card, counted from 1, the column, the kind

@@ -18,8 +18,8 @@ use Rattle.lists.proofs.Comparing.{equal-alike, unequal-alike}
 use Rattle.forms.specs.Cards.{cardAt, layoutOf}
 use Rattle.keys.specs.Roles.{H00X8, H0100}
 use Rattle.keys.specs.Keys.{isNone, between, wholeKey, wholeIn}
-use Rattle.ties.specs.Definitions.{waypointsOf, pointsOf}
-use Rattle.ties.specs.Faults.{differs, miscounted, brokenOn, broken}
+use Rattle.broken.specs.Definitions.{waypointsOf, pointsOf}
+use Rattle.broken.specs.Faults.{differs, miscounted, brokenOn, broken}
 use Rattle.tie_laws.proofs.Tests.{both, either}
 use Rattle.tie_laws.proofs.Sites.{statesCount, isSite, at-site}
 

@@ -18,9 +18,9 @@ use Rattle.codes.specs.Codes.{byteFits, fitsAt, fits, codes, placeIn, codeAt, c
 use Rattle.forms.specs.Cards.{cardAt, cardsIn, byteIn, layoutOf}
 use Rattle.keys.specs.Roles.{ties, lineIn, lineFor, hasVessel}
 use Rattle.keys.specs.Keys.{isNone, between, wholeKey, wholeIn, paired, keyIn, classAt, keyAt, holdsKey, vesselOf, contradict}
-use Rattle.ties.specs.Definitions.{places, cardOf, columnOf, definitionsOf, contradictionsOf}
-use Rattle.ties.specs.Faults.{definitionsAt, undefined, redefined, ambiguous, statesVessel, contradicted, differs, miscounted}
-use Rattle.ties.specs.Faults.{brokenOn, broken}
+use Rattle.broken.specs.Definitions.{places, cardOf, columnOf, definitionsOf, contradictionsOf}
+use Rattle.broken.specs.Faults.{definitionsAt, undefined, redefined, ambiguous, statesVessel, contradicted, differs, miscounted}
+use Rattle.broken.specs.Faults.{brokenOn, broken}
 use Rattle.tie_laws.proofs.Complete.{listOf}
 use Rattle.tie_laws.proofs.Sites.{hasLine, isSite}
 use Rattle.tie_laws.proofs.CardByCard.{siteEntry, sitesOf, entriesOn, card-by-card}

@@ -13,9 +13,9 @@ use Rattle.lists.proofs.Moving.{count-moved, spread}
 use Rattle.forms.specs.Cards.{cardAt, cardsIn, layoutOf}
 use Rattle.keys.specs.Roles.{defines, refers, H0101}
 use Rattle.keys.specs.Keys.{classAt, keyAt, holdsKey, definesKey, vesselOf, contradict, wholeIn}
-use Rattle.ties.specs.Definitions.{places, cardOf, columnOf, definedAt, definitionsOf, placeOf}
-use Rattle.ties.specs.Definitions.{contradictionsOf, waypointAt, waypointsOf, pointsOf}
-use Rattle.ties.specs.Faults.{
+use Rattle.broken.specs.Definitions.{places, cardOf, columnOf, definedAt, definitionsOf, placeOf}
+use Rattle.broken.specs.Definitions.{contradictionsOf, waypointAt, waypointsOf, pointsOf}
+use Rattle.broken.specs.Faults.{
   definitionsAt,
   undefined,
   redefined,

@@ -13,7 +13,7 @@ use Rattle.lists.proofs.Counting.{count-none, none-pass, count-one, count-some}
 use Rattle.lists.proofs.Finding.{first-below, first-passes}
 use Rattle.forms.specs.Cards.{cardAt, cardsIn}
 use Rattle.keys.specs.Keys.{definesKey}
-use Rattle.ties.specs.Definitions.{places, cardOf, columnOf, definedAt, definitionsOf, placeOf}
+use Rattle.broken.specs.Definitions.{places, cardOf, columnOf, definedAt, definitionsOf, placeOf}
 
 -- where one passes at least, the first that does is below n
 pub first-there : (p : ℕ → Bool) (n : ℕ) → 1 ≤ count p n → first p n < n

@@ -16,8 +16,8 @@ use Rattle.lists.proofs.Finding.{first-passes}
 use Rattle.forms.specs.Cards.{cardAt, cardsIn}
 use Rattle.keys.specs.Roles.{defines, refers}
 use Rattle.keys.specs.Keys.{classAt, keyAt, holdsKey, definesKey, vesselOf, contradict, wholeIn}
-use Rattle.ties.specs.Definitions.{places, cardOf, columnOf, definedAt, definitionsOf, placeOf, contradictionsOf}
-use Rattle.ties.specs.Faults.{definitionsAt, undefined, redefined, ambiguous, statesVessel, contradicted, brokenOn, broken}
+use Rattle.broken.specs.Definitions.{places, cardOf, columnOf, definedAt, definitionsOf, placeOf, contradictionsOf}
+use Rattle.broken.specs.Faults.{definitionsAt, undefined, redefined, ambiguous, statesVessel, contradicted, brokenOn, broken}
 use Rattle.tie_laws.proofs.Tests.{both}
 use Rattle.tie_laws.proofs.Places.{Defines, Only, Elsewhere, numberOf, first-there, pair-there, to-number, of-number}
 use Rattle.tie_laws.proofs.Places.{at-least-one, one-exactly, several-exactly, place-named, place-only, no-place-exactly}

@@ -33,7 +33,7 @@ use Rattle.keys.specs.Roles.{
   lineFor,
 }
 use Rattle.keys.specs.Keys.{isNone, between, wholeIn, paired, keyIn, classAt, keyAt, holdsKey, definesKey}
-use Rattle.ties.specs.Definitions.{definitionsOf}
+use Rattle.broken.specs.Definitions.{definitionsOf}
 use Rattle.tie_laws.proofs.Tests.{both}
 use Rattle.tie_laws.proofs.Sites.{gives}
 use Rattle.tie_laws.proofs.Places.{none-exactly}

@@ -30,7 +30,7 @@ use Rattle.keys.specs.Roles.{
   H0100,
 }
 use Rattle.keys.specs.Keys.{isNone, keyIn, keyAt, holdsKey}
-use Rattle.ties.specs.Faults.{
+use Rattle.broken.specs.Faults.{
   undefined,
   redefined,
   ambiguous,

@@ -35,7 +35,7 @@ use Rattle.keys.specs.Roles.{
   lineFor,
 }
 use Rattle.keys.specs.Keys.{isNone, between, wholeKey, wholeIn, keyIn, classAt, keyAt, holdsKey, definesKey}
-use Rattle.ties.specs.Definitions.{placeOf}
+use Rattle.broken.specs.Definitions.{placeOf}
 use Rattle.tie_laws.proofs.Tests.{both}
 use Rattle.tie_laws.proofs.Complete.{listOf, broken-listed}
 use Rattle.tie_laws.proofs.Places.{Defines, Elsewhere, Differ, one-exactly, place-named}

@@ -1,2 +1,2 @@
-pub mod Definitions
-pub mod Faults
+pub mod Answer
+pub mod Questions

@@ -12,26 +12,21 @@ use Rattle.text.specs.Texts.{printable}
 use Rattle.forms.specs.Cards.{cardsIn, layoutOf}
 use Rattle.forms.proofs.Steps.{card-part, card-ends}
 use Rattle.tying.specs.Columns.{tieColumns}
+use Rattle.breaking.specs.Kinds.{brokenFor}
 use Rattle.faults.specs.Stored.{storedAll}
-use Rattle.faults.specs.Listed.{slotEntries, cardEntries, brokenFor}
+use Rattle.faults.specs.Listed.{slotEntries, cardEntries}
 use Rattle.faults.proofs.Stored.{length-stored-all}
 use Rattle.faults.proofs.Walked.{run-more, slot-gives, column-below}
 use Rattle.faults.proofs.list_card.Statement.{statement}
 use Rattle.faults.proofs.list_card.Tie as tie
-use Rattle.faults.proofs.list_card.Reads as reads
-use Rattle.faults.proofs.list_card.Lts as lts
-use Rattle.faults.proofs.judge_column.Reads as judge-column-reads
-use Rattle.faults.proofs.put_all.Reads as put-all-reads
-use Rattle.forms.proofs.layout_of.Reads as layout-of-reads
-use Rattle.tying.proofs.tie_column.Reads as tie-column-reads
 
 abbrev Inv-loop : tie.InvT-loop
-Inv-loop list₀ found header numbers tags heads next n waypoints points place from card layout m₀ slot₀ list m slot =
+Inv-loop list₀ found header numbers tags heads next times n waypoints points place from card layout m₀ slot₀ list m slot =
     (slot ≤ 5) × (m ≤ found + 5 * slot) × (list ≡ storedAll list₀ found (flatMap (slotEntries header place) (upTo slot)))
     × (m ≡ found + length (flatMap (slotEntries header place) (upTo slot)))
 
 abbrev μ-loop : tie.MeasureT-loop
-μ-loop list₀ found header numbers tags heads next n waypoints points place from card layout m₀ slot₀ list m slot = 5 - slot
+μ-loop list₀ found header numbers tags heads next times n waypoints points place from card layout m₀ slot₀ list m slot = 5 - slot
 
 -- the card lies within the header
 within : (c : tie.After-shared-slice-known Inv-loop μ-loop)
@@ -42,36 +37,28 @@ within c = card-ends (now (c .before .before .args .header)) (c .before .before 
 mul-from : tie.Need-mul-from Inv-loop μ-loop
 mul-from c = omega (arith, within c)
 
--- src/lib.rt:253:30
 add-card : tie.Need-add-card Inv-loop μ-loop
 add-card c = omega (arith, within c)
 
--- src/lib.rt:253:16
 sub-card : tie.Need-sub-card Inv-loop μ-loop
 sub-card c = omega (arith, within c)
 
--- src/lib.rt:253:16
 part-card-start : tie.Need-part-card-start Inv-loop μ-loop
 part-card-start c = omega (arith, within c)
 
--- src/lib.rt:253:16
 part-card-end : tie.Need-part-card-end Inv-loop μ-loop
 part-card-end c = omega (arith, within c)
 
--- src/lib.rt:254:9
 layout-of-requires : tie.Need-layout-of-requires Inv-loop μ-loop
 layout-of-requires c κs = search needs
 
--- src/lib.rt:257:5
 loop-holds : tie.Need-loop-holds Inv-loop μ-loop
 unfolding upTo flatMap storedAll
 loop-holds c = (omega arith, omega arith, refl, sym (add-zero _))
 
--- src/lib.rt:258:13
 tie-column-requires : tie.Need-tie-column-requires Inv-loop μ-loop
 tie-column-requires c κs = search needs
 
--- src/lib.rt:259:13
 judge-column-requires : tie.Need-judge-column-requires Inv-loop μ-loop
 judge-column-requires c κs =
     let k = c .before .before .before in
@@ -81,39 +68,32 @@ judge-column-requires c κs =
       (ap printable (card-part h (s .args .place)) ∙ s .pre .0 .printed (s .args .place) (s .pre .1 .0), s .pre .0),
     )
 
--- src/lib.rt:262:39
 add-put-all : tie.Need-add-put-all Inv-loop μ-loop
 add-put-all c = search needs
 
--- src/lib.rt:262:38
 cast-put-all : tie.Need-cast-put-all Inv-loop μ-loop
 cast-put-all c =
     let s = c .before .before .before .before .before .before .before .before .before in
     record { fits = omega (arith, s .pre .1 .0, s .pre .0 .few) }
 
--- src/lib.rt:262:58
 cast-put-all-2 : tie.Need-cast-put-all-2 Inv-loop μ-loop
 cast-put-all-2 c =
     let t = c .before .before in
     let k = t .before .before .before in
     record { fits = omega (arith, t .tie-column .ensures, column-below (k .layout-of .result) (t .before .before .loop .slot)) }
 
--- src/lib.rt:262:9
 put-all-requires : tie.Need-put-all-requires Inv-loop μ-loop
 put-all-requires c κs =
     let b = c .before .before .before .before .loop in
     let s = c .before .before .before .before .before .before .before .before .before in
     omega (arith, b .inv .0, b .inv .1, s .pre .1 .0, s .pre .1 .1, s .pre .0 .few)
 
--- src/lib.rt:263:9
 add-slot : tie.Need-add-slot Inv-loop μ-loop
 add-slot c = search needs
 
--- src/lib.rt:257:5
 loop-less : tie.Need-loop-less Inv-loop μ-loop
 loop-less c = search needs
 
--- src/lib.rt:257:5
 loop-again : tie.Need-loop-again Inv-loop μ-loop
 loop-again c =
     let p = c .before .before in
@@ -132,13 +112,11 @@ loop-again c =
     (o .0 ∙ ap (storedAll (b .list) (b .m)) e) (o .1 .0 ∙ ap (λ x. b .m + length x) e) in
     (omega arith, omega (arith, b .inv .1, o .1 .1), r .0, r .1)
 
--- src/lib.rt:231:1
 same-length : tie.Need-same-length Inv-loop μ-loop
 same-length c =
     let b = c .before .loop in
     ap length (b .inv .2) ∙ length-stored-all _ _ _
 
--- src/lib.rt:231:1
 returns : tie.Need-returns Inv-loop μ-loop
 unfolding cardEntries
 returns c =

@@ -1,6 +1,6 @@
 -- `faults::list_cards` meets its contract.
 use Prim.Native.Nat.{_+_, _*_, _-_, _/_, _≤_}
-use mathlib.Core.Path.{_≡_, refl, sym, ap, _∙_}
+use mathlib.Core.Path.{_≡_, refl, ap, _∙_}
 use mathlib.Core.List.{flatMap}
 use lib.ListN.{length}
 use denote.Ref.{now}
@@ -8,6 +8,7 @@ use native.Mathlib.Omega.{arith}
 use borrow.Author.Needs.{needs}
 use Rattle.lists.specs.Parts.{upTo}
 use Rattle.forms.specs.Cards.{cardsIn}
+use Rattle.broken.specs.Faults.{faults}
 use Rattle.faults.specs.Stored.{storedAll}
 use Rattle.faults.specs.Listed.{cardEntries, entriesTo}
 use Rattle.faults.proofs.Stored.{length-stored-all}
@@ -17,13 +18,13 @@ use Rattle.faults.proofs.list_cards.Statement.{statement}
 use Rattle.faults.proofs.list_cards.Tie as tie
 
 abbrev Inv-loop : tie.InvT-loop
-Inv-loop list₀ header numbers tags heads next n waypoints points count found₀ place₀ list found place =
+Inv-loop list₀ header numbers tags heads next times n waypoints points count found₀ place₀ list found place =
     (place ≤ length header / 80) × (found ≤ 25 * place)
     × (list ≡ storedAll list₀ 0 (flatMap (cardEntries header) (upTo place)))
     × (found ≡ 0 + length (flatMap (cardEntries header) (upTo place)))
 
 abbrev μ-loop : tie.MeasureT-loop
-μ-loop list₀ header numbers tags heads next n waypoints points count found₀ place₀ list found place = length header / 80 - place
+μ-loop list₀ header numbers tags heads next times n waypoints points count found₀ place₀ list found place = length header / 80 - place
 
 loop-holds : tie.Need-loop-holds Inv-loop μ-loop
 unfolding upTo flatMap storedAll
@@ -35,7 +36,7 @@ list-card-requires c κs =
     let l = c .before in
     let b = l .before .loop in
     let s = l .before .before .before .before in
-    (s .pre, (l .loop-test .taken, b .inv .1))
+    (s .pre, (omega (arith, l .loop-test .taken), b .inv .1))
 
 add-place : tie.Need-add-place Inv-loop μ-loop
 add-place c = search needs
@@ -66,9 +67,9 @@ returns c =
     let h = now (s .args .header) in
     let q : b .place ≡ length h / 80 = omega (arith, b .inv .0) in
     let g = cardEntries h in
-    let n : 0 + length (flatMap g (upTo (b .place))) ≡ length (flatMap g (upTo (b .place))) = omega arith in (
+    let all : length (flatMap g (upTo (b .place))) ≡ length (faults h) = ap (λ i. length (flatMap g (upTo i))) q ∙ all-found h in (
       b .inv .2 ∙ ap (λ i. storedAll (now (s .args .list)) 0 (flatMap g (upTo i))) q ∙ all-laid h (now (s .args .list)),
-      b .inv .3 ∙ n ∙ ap (λ i. length (flatMap g (upTo i))) q ∙ all-found h,
+      omega (arith, b .inv .3, all),
     )
 
 pub list-cards-spec : {M : Type 1} → statement M

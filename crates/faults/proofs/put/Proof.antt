@@ -9,56 +9,42 @@ use Rattle.faults.proofs.Stored.{three-stored}
 use borrow.Author.Needs.{needs}
 use Rattle.faults.proofs.put.Statement.{statement}
 use Rattle.faults.proofs.put.Tie as tie
-use Rattle.faults.proofs.put.Reads as reads
-use Rattle.faults.proofs.put.Lts as lts
 
--- src/lib.rt:35:21
 add-if1 : tie.Need-add-if1
 add-if1 c = search needs
 
--- src/lib.rt:36:9
 returns : tie.Need-returns
 returns c =
     let s = c .before in
     sym (stored-full (now (s .args .list)) (s .args .at) (s .args .card ∷ s .args .column ∷ s .args .kind ∷ []) (omega arith))
 
--- src/lib.rt:38:5
 mul-list : tie.Need-mul-list
 mul-list c = search needs
 
--- src/lib.rt:38:5
 slice-write-list : tie.Need-slice-write-list
 slice-write-list c = search needs
 
--- src/lib.rt:39:10
 add-list : tie.Need-add-list
 add-list c = search needs
 
--- src/lib.rt:39:5
 mul-list-2 : tie.Need-mul-list-2
 mul-list-2 c = search needs
 
--- src/lib.rt:39:5
 slice-write-list-2 : tie.Need-slice-write-list-2
 slice-write-list-2 c = rw length-set (omega arith)
 
--- src/lib.rt:40:10
 add-list-2 : tie.Need-add-list-2
 add-list-2 c = search needs
 
--- src/lib.rt:40:5
 mul-list-3 : tie.Need-mul-list-3
 mul-list-3 c = search needs
 
--- src/lib.rt:40:5
 slice-write-list-3 : tie.Need-slice-write-list-3
 slice-write-list-3 c = rw (length-set, length-set) (omega arith)
 
--- src/lib.rt:31:1
 same-length : tie.Need-same-length
 same-length c = search needs
 
--- src/lib.rt:31:1
 returns-2 : tie.Need-returns-2
 returns-2 c =
     let a = c .before .args in

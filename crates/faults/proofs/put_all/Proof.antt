@@ -4,35 +4,25 @@ use Rattle.faults.proofs.Stored.{five-kinds}
 use borrow.Author.Needs.{needs}
 use Rattle.faults.proofs.put_all.Statement.{statement}
 use Rattle.faults.proofs.put_all.Tie as tie
-use Rattle.faults.proofs.put_all.Reads as reads
-use Rattle.faults.proofs.put_all.Lts as lts
-use Rattle.faults.proofs.put_if.Reads as put-if-reads
 
--- src/lib.rt:65:9
 put-if-requires : tie.Need-put-if-requires
 put-if-requires c κs = search needs
 
--- src/lib.rt:66:9
 put-if-requires-2 : tie.Need-put-if-requires-2
 put-if-requires-2 c κs = search needs
 
--- src/lib.rt:67:9
 put-if-requires-3 : tie.Need-put-if-requires-3
 put-if-requires-3 c κs = search needs
 
--- src/lib.rt:68:9
 put-if-requires-4 : tie.Need-put-if-requires-4
 put-if-requires-4 c κs = search needs
 
--- src/lib.rt:69:5
 put-if-requires-5 : tie.Need-put-if-requires-5
 put-if-requires-5 c κs = search needs
 
--- src/lib.rt:59:1
 same-length : tie.Need-same-length
 same-length c = search needs
 
--- src/lib.rt:59:1
 returns : tie.Need-returns
 returns c =
     let e = c .before .before in

@@ -4,33 +4,24 @@ use native.Mathlib.Omega.{arith}
 use borrow.Author.Needs.{needs}
 use Rattle.faults.proofs.put_if.Statement.{statement}
 use Rattle.faults.proofs.put_if.Tie as tie
-use Rattle.faults.proofs.put_if.Reads as reads
-use Rattle.faults.proofs.put_if.Lts as lts
-use Rattle.faults.proofs.put.Reads as put-reads
 
--- src/lib.rt:52:19
 mul-put : tie.Need-mul-put
 mul-put c = search needs
 
--- src/lib.rt:52:9
 put-requires : tie.Need-put-requires
 put-requires c κs = search needs
 
--- src/lib.rt:53:16
 add-result : tie.Need-add-result
 add-result c = search needs
 
--- src/lib.rt:53:9
 same-length : tie.Need-same-length
 same-length c = search needs
 
--- src/lib.rt:53:9
 returns : tie.Need-returns
 returns c =
     let p = c .before .before in
     rw (p .before .before .if1 .taken) (p .put .ensures, (omega arith, omega arith))
 
--- src/lib.rt:44:1
 returns-2 : tie.Need-returns-2
 returns-2 c = rw (c .if1 .left) (refl, (omega arith, omega arith))
 

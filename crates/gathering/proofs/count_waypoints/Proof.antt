@@ -1,7 +1,6 @@
 -- `gathering::count_waypoints` meets its contract.
 use Prim.Native.Nat.{_-_, _≤_}
 use mathlib.Core.Path.{_≡_}
-use denote.Ref.{now}
 use native.Mathlib.Omega.{arith}
 use borrow.Author.Needs.{needs}
 use Rattle.gathering.specs.Gathered.{Counted}

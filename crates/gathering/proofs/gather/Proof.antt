@@ -13,17 +13,17 @@ use Rattle.gathering.proofs.gather.Statement.{statement}
 use Rattle.gathering.proofs.gather.Tie as tie
 
 abbrev Inv-loop : tie.InvT-loop
-Inv-loop header numbers₀ tags₀ heads₀ next₀ count n₀ place₀ numbers tags heads next n place =
-    (place ≤ length header / 80) × (n ≤ 5 * place) × Gathered header (80 * place) numbers tags n heads next
+Inv-loop header numbers₀ tags₀ heads₀ next₀ times₀ count n₀ place₀ numbers tags heads next times n place =
+    (place ≤ length header / 80) × (n ≤ 5 * place) × Gathered header (80 * place) numbers tags n heads next times
 
 abbrev μ-loop : tie.MeasureT-loop
-μ-loop header numbers₀ tags₀ heads₀ next₀ count n₀ place₀ numbers tags heads next n place = length header / 80 - place
+μ-loop header numbers₀ tags₀ heads₀ next₀ times₀ count n₀ place₀ numbers tags heads next times n place = length header / 80 - place
 
 loop-holds : tie.Need-loop-holds Inv-loop μ-loop
 loop-holds c =
     let s = c .before in
     let p = s .pre .1 in
-    (omega arith, omega arith, no-cards (now (s .args .header)) _ _ _ _ (p .0) (p .1 .0) (p .1 .1 .0) (p .1 .1 .1))
+    (omega arith, omega arith, no-cards (now (s .args .header)) _ _ _ _ _ (p .0) (p .1 .0) (p .1 .1 .0) (p .1 .1 .1 .0) (p .1 .1 .1 .1))
 
 -- the card lies within the header
 within : (c : tie.In-loop Inv-loop μ-loop)
@@ -48,7 +48,7 @@ part-card-end c = omega (arith, within c)
 gather-card-requires : tie.Need-gather-card-requires Inv-loop μ-loop
 unfolding cardsIn
 gather-card-requires c κs =
-    let l = c .before .before .before .before .before in
+    let l = c .before .before .before .before .before .before in
     let b = l .before .loop in
     let s = l .before .before .before in
     (omega (arith, b .inv .1, l .loop-test .taken, s .pre .0), (b .inv .2 .tags-room, b .inv .2 .linked))
@@ -61,13 +61,13 @@ loop-less c = search needs
 
 loop-again : tie.Need-loop-again Inv-loop μ-loop
 loop-again c =
-    let l = c .before .before .before .before .before .before in
+    let l = c .before .before .before .before .before .before .before in
     let b = l .before .loop in
     let h = now (l .before .before .before .args .header) in
     let e = c .gather-card .ensures in (
       omega arith,
       omega (arith, b .inv .1, e .0),
-      card-more h _ _ _ _ _ _ _ _ _ (b .place) _ _ (card-part h (b .place)) (b .inv .2) (e .1),
+      card-more h _ _ _ _ _ _ _ _ _ _ _ (b .place) _ _ (card-part h (b .place)) (b .inv .2) (e .1),
     )
 
 returns : tie.Need-returns Inv-loop μ-loop
@@ -76,7 +76,7 @@ returns c =
     let b = c .before .loop in
     let h = now (c .before .before .before .args .header) in
     let q : b .place ≡ length h / 80 = omega (arith, b .inv .0) in
-    all-cards h _ _ _ _ (b .place) _ _ q (b .inv .2)
+    all-cards h _ _ _ _ _ (b .place) _ _ q (b .inv .2)
 
 pub gather-spec : {M : Type 1} → statement M
 gather-spec =

@@ -18,11 +18,11 @@ use Rattle.gathering.proofs.gather_column.Reads as gather-column-reads
 use Rattle.tying.proofs.tie_column.Reads as tie-column-reads
 
 abbrev Inv-loop : tie.InvT-loop
-Inv-loop numbers₀ tags₀ heads₀ next₀ n card layout m₀ slot₀ numbers tags heads next m slot =
-    (slot ≤ 5) × (m ≤ n + slot) × Grown (onSlots card slot) numbers₀ tags₀ n numbers tags m heads next
+Inv-loop numbers₀ tags₀ heads₀ next₀ times₀ n card layout m₀ slot₀ numbers tags heads next times m slot =
+    (slot ≤ 5) × (m ≤ n + slot) × Grown (onSlots card slot) numbers₀ tags₀ n numbers tags m heads next times
 
 abbrev μ-loop : tie.MeasureT-loop
-μ-loop numbers₀ tags₀ heads₀ next₀ n card layout m₀ slot₀ numbers tags heads next m slot = 5 - slot
+μ-loop numbers₀ tags₀ heads₀ next₀ times₀ n card layout m₀ slot₀ numbers tags heads next times m slot = 5 - slot
 
 -- src/lib.rt:71:9
 layout-of-requires : tie.Need-layout-of-requires Inv-loop μ-loop
@@ -32,7 +32,7 @@ layout-of-requires c κs = search needs
 loop-holds : tie.Need-loop-holds Inv-loop μ-loop
 loop-holds c =
     let s = c .before .before in
-    (omega arith, omega arith, no-slots _ _ _ _ _ _ (s .pre .1 .1) (s .pre .1 .0))
+    (omega arith, omega arith, no-slots _ _ _ _ _ _ _ (s .pre .1 .1) (s .pre .1 .0))
 
 -- src/lib.rt:75:13
 tie-column-requires : tie.Need-tie-column-requires Inv-loop μ-loop
@@ -41,7 +41,7 @@ tie-column-requires c κs = search needs
 -- src/lib.rt:76:9
 gather-column-requires : tie.Need-gather-column-requires Inv-loop μ-loop
 gather-column-requires c κs =
-    let b = c .before .before .before .before .before .before in
+    let b = c .before .before .before .before .before .before .before in
     let l = b .before in
     let below : b .loop .m < room = omega (arith, b .loop .inv .1, l .before .before .pre .0) in
     (l .layout-of .ensures, (below, (b .loop .inv .2 .tags-room, b .loop .inv .2 .linked)))
@@ -57,7 +57,7 @@ loop-less c = search needs
 -- src/lib.rt:74:5
 loop-again : tie.Need-loop-again Inv-loop μ-loop
 loop-again c =
-    let t = c .before .before .before .before .before in
+    let t = c .before .before .before .before .before .before in
     let b = t .before .before .loop in
     let l = t .before .before .before in
     let s = now (l .before .before .args .card) in
@@ -65,7 +65,7 @@ loop-again c =
     let q = t .tie-column .ensures ∙ ap (λ k. getD (tieColumns k) (b .slot) 0) (l .layout-of .ensures) in (
       omega arith,
       omega (arith, b .inv .1, e .0),
-      slot-more s _ _ _ _ _ _ _ _ _ _ (b .slot) _ _ _ _ q (b .inv .2) (e .1),
+      slot-more s _ _ _ _ _ _ _ _ _ _ _ _ (b .slot) _ _ _ _ q (b .inv .2) (e .1),
     )
 
 -- src/lib.rt:56:1
@@ -74,7 +74,7 @@ returns c =
     let b = c .before .loop in
     let s = c .before .before .before .before in
     let q : b .slot ≡ 5 = omega (arith, b .inv .0) in
-    (omega (arith, b .inv .1), all-slots (now (s .args .card)) _ _ _ _ _ _ (b .slot) _ _ q (b .inv .2))
+    (omega (arith, b .inv .1), all-slots (now (s .args .card)) _ _ _ _ _ _ _ (b .slot) _ _ q (b .inv .2))
 
 pub gather-card-spec : {M : Type 1} → statement M
 gather-card-spec =

@@ -1,0 +1,4 @@
+-- Laws of the scan for a key.
+pub mod OnCard
+pub mod InHeader
+pub mod Defined

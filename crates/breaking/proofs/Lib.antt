@@ -1,0 +1,6 @@
+-- Laws of the kinds of fault that a column has.
+pub mod Answered
+pub mod Asked
+pub mod Judged
+pub mod Rows
+pub mod Stated

@@ -1,0 +1,14 @@
+-- Which kinds of fault a column of a card of a header has.
+use Prim.Native.Nat.{ℕ}
+use mathlib.Core.List.{List}
+use Rattle.broken.specs.Faults as kind
+use Rattle.breaking.specs.declared.Broken.{Broken}
+
+unfoldable pub brokenFor : List ℕ → List ℕ → ℕ → Broken
+brokenFor h s column = record {
+  undefined = kind.undefined h s column;
+  redefined = kind.redefined h s column;
+  ambiguous = kind.ambiguous h s column;
+  contradicted = kind.contradicted h s column;
+  miscounted = kind.miscounted h s column;
+}
