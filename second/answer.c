@@ -1,4 +1,5 @@
-// Answers a script of commands, one on each line of standard input, as the programs cardvectors and headervectors do.
+// Answers a script of commands, one on each line of standard input, as the programs cardvectors and headervectors do,
+// or, with the argument ties, as tievectors does.
 //
 // field N FORM card          what stands in field N
 // text N FORM card           its text
@@ -8,13 +9,19 @@
 // judge FORM card            the card's first offence by itself, FORM being 0, 1 or ?
 // keep N                     a header of the first N cards, or of all; what the check says of it
 // add N card                 a header with a card, or any columns, put behind it N times; the same
-#include "header.h"
+//
+// With ties the answer to these two is the number of bytes, and there are
+// check N                    the number of broken ties, and a list of N numbers as the check leaves it
+// sum N                      the same with one number for the whole list
+// count CLASS KEY            how often a key is defined: whole N, pair N M, text |bytes|; or streamer, node or sensor and N
+// where CLASS KEY            the place of its only definition
+#include "ties.h"
 
 #include <stdio.h>
 #include <stdlib.h>
 #include <string.h>
 
-enum { LINE_SIZE = 4096, COLUMNS = 128, HEADER_SIZE = 65536 };
+enum { LINE_SIZE = 4096, COLUMNS = 128, HEADER_SIZE = 65536, LIST_SIZE = 12288 };
 
 // A part of a line.
 struct part {
@@ -284,9 +291,14 @@ static int judge_command(struct part args)
 
 static uint8_t header[HEADER_SIZE];
 static size_t header_size;
+static int of_ties;
 
 static void say_checked(void)
 {
+    if (of_ties) {
+        printf("%zu", header_size);
+        return;
+    }
     struct refusal r = check_header(header, header_size);
     if (r.number)
         say_refused(r);
@@ -319,9 +331,109 @@ static int add_command(struct part args)
     return 1;
 }
 
+// The list is just as long as is asked for, so that a build that looks for it sees a write behind its end.
+static int check_command(struct part args, int whole)
+{
+    uint64_t asked, sum = 0;
+    size_t faults;
+    if (!number_in(args, &asked))
+        return 0;
+    size_t room = asked < LIST_SIZE ? (size_t)asked : LIST_SIZE;
+    uint32_t *list = malloc(room * sizeof *list + 1);
+    if (!list)
+        exit(EXIT_FAILURE);
+    for (size_t i = 0; i < room; i++)
+        list[i] = (uint32_t)(90000 + i % 10000);
+    struct refusal r = check_ties(header, header_size, list, room, &faults);
+    if (r.number)
+        say_refused(r);
+    else
+        printf("broken %zu", faults);
+    for (size_t i = 0; i < room; i++) {
+        sum = (sum * 31 + list[i]) % 1000000007;
+        if (whole)
+            printf(i % ENTRY_SIZE == 0 ? " | %u" : " %u", (unsigned)list[i]);
+    }
+    if (!whole)
+        printf(" sum %u", (unsigned)sum);
+    free(list);
+    return 1;
+}
+
+// whole N, pair N M, text |bytes|
+static int key_in(struct part s, struct key *key, struct bytes *text)
+{
+    struct part name = word(s), rest = next(s);
+    memset(key, 0, sizeof *key);
+    if (is(name, "whole")) {
+        key->kind = KEY_WHOLE;
+        return signed_in(rest, &key->first);
+    }
+    if (is(name, "pair")) {
+        key->kind = KEY_PAIR;
+        return signed_in(word(rest), &key->first) && signed_in(next(rest), &key->second);
+    }
+    key->kind = KEY_TEXT;
+    if (!is(name, "text") || !columns_in(rest, '|', text))
+        return 0;
+    key->text = text->at;
+    key->length = text->size;
+    return 1;
+}
+
+// CLASS KEY, or a name and a number for the classes that have one.
+static int question_in(struct part s, uint64_t *class, struct key *key, struct bytes *text)
+{
+    struct part name = word(s), rest = next(s);
+    *class = is(name, "streamer") ? 2 : is(name, "node") ? 3 : is(name, "sensor") ? 5 : 0;
+    if (*class == 0)
+        return number_in(name, class) && key_in(rest, key, text);
+    memset(key, 0, sizeof *key);
+    return signed_in(rest, &key->first);
+}
+
+static int key_command(struct part args, int where)
+{
+    uint64_t class;
+    struct key key;
+    struct bytes text;
+    size_t number;
+    struct place place;
+    if (!question_in(args, &class, &key, &text))
+        return 0;
+    struct refusal r = where ? find_definition(header, header_size, class, &key, &place)
+                             : count_definitions(header, header_size, class, &key, &number);
+    if (r.number)
+        say_refused(r);
+    else if (where)
+        printf("at %u %u", (unsigned)place.card, (unsigned)place.column);
+    else
+        printf("number %zu", number);
+    return 1;
+}
+
+static int tie_answer(struct part name, struct part args)
+{
+    if (is(name, "keep"))
+        return keep_command(args);
+    if (is(name, "add"))
+        return add_command(args);
+    if (is(name, "check"))
+        return check_command(args, 1);
+    if (is(name, "sum"))
+        return check_command(args, 0);
+    if (is(name, "count"))
+        return key_command(args, 0);
+    if (is(name, "where"))
+        return key_command(args, 1);
+    return 0;
+}
+
 static int answer(struct part line)
 {
     struct part name = word(line), args = next(line);
+    if (of_ties)
+        return tie_answer(name, args);
     if (is(name, "field"))
         return field_command(args, 0);
     if (is(name, "text"))
@@ -353,9 +465,10 @@ static void reply(struct part line)
     putchar('\n');
 }
 
-int main(void)
+int main(int argc, char **argv)
 {
     static uint8_t line[LINE_SIZE];
+    of_ties = argc == 2 && strcmp(argv[1], "ties") == 0;
     size_t n = 0;
     int c;
     while ((c = getchar()) != EOF) {

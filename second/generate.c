@@ -6,6 +6,7 @@
 //                                        refusal of an operation, a field of a code or a passed code was never reached
 // generate headers SEED COUNT            prints a script that makes COUNT headers
 // generate headers SEED COUNT histogram  prints how often each refusal came instead, and fails if one never did
+#include "chance.h"
 #include "header.h"
 
 #include <stdio.h>
@@ -41,33 +42,6 @@ struct test {
     struct value value;
     struct bytes text, card;
 };
-
-// Chance.
-
-static uint64_t state;
-
-static uint64_t chance(void)
-{
-    uint64_t z = (state += 0x9e3779b97f4a7c15u);
-    z = (z ^ (z >> 30)) * 0xbf58476d1ce4e5b9u;
-    z = (z ^ (z >> 27)) * 0x94d049bb133111ebu;
-    return z ^ (z >> 31);
-}
-
-static unsigned below(unsigned n)
-{
-    return (unsigned)(chance() % n);
-}
-
-static int percent(unsigned n)
-{
-    return below(100) < n;
-}
-
-static uint8_t one_of(const char *bytes)
-{
-    return (uint8_t)bytes[below((unsigned)strlen(bytes))];
-}
 
 // A printable byte that the script can say: not one of the four that stand for others.
 static uint8_t any_printable(void)

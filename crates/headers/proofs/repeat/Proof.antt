@@ -3,8 +3,8 @@ use lib.ListN.{length}
 use mathlib.Core.Path.{_≡_}
 use Prim.Native.Nat.{_≤_, _-_}
 use borrow.Author.Needs.{needs}
-use Rattle.headervectors.proofs.repeat.Statement.{statement}
-use Rattle.headervectors.proofs.repeat.Tie as tie
+use Rattle.headers.proofs.repeat.Statement.{statement}
+use Rattle.headers.proofs.repeat.Tie as tie
 
 abbrev Inv-loop : tie.InvT-loop
 Inv-loop header₀ m columns times end₀ k₀ header end k = (k ≤ times) × (length header ≡ length header₀)

@@ -1,0 +1,35 @@
+// The ties between the cards of a line header, a second time: written in C from the paper alone, to be compared with the
+// proved software.
+#ifndef SECOND_TIES_H
+#define SECOND_TIES_H
+
+#include "header.h"
+
+// An entry of the list of faults is card, column and kind.
+enum { ENTRY_SIZE = 3, MOST_FAULTS = 3957 };
+
+enum key_kind { KEY_WHOLE, KEY_PAIR, KEY_TEXT };
+
+// A key that is asked for: a whole number in `first`, a pair, or a text.
+struct key {
+    enum key_kind kind;
+    int64_t first, second;
+    const uint8_t *text;
+    size_t length;
+};
+
+// Both 0 where the definitions are not exactly one.
+struct place {
+    uint32_t card, column;
+};
+
+// The number of all faults; as many whole entries as fit in `room` numbers are written from the first of the list. Nothing
+// is written where the header is refused.
+struct refusal check_ties(const uint8_t *header, size_t size, uint32_t *list, size_t room, size_t *faults);
+
+// How often a key of a class is defined, and where it is if once; 0 where the header or the class is refused.
+struct refusal count_definitions(const uint8_t *header, size_t size, uint64_t class, const struct key *key, size_t *number);
+struct refusal find_definition(const uint8_t *header, size_t size, uint64_t class, const struct key *key,
+                               struct place *place);
+
+#endif
