@@ -1,0 +1,24 @@
+// The crew's program: reads a header from standard input, and writes what the check says of it.
+use intake::Input;
+use libc::STDOUT_FILENO;
+
+// The longest header, and one card more to notice a longer one.
+const ROOM: usize = 64080;
+
+// Writes the answer to a header in one go.
+fn reply(header: &[u8]) {
+    let mut out = [0u8; answer::LONGEST];
+    let n = telling::tell(header, &mut out);
+    if !io::write_all(STDOUT_FILENO, &out[..n]) {
+        os::fail(b"linecheck: standard output");
+    }
+}
+
+fn main() {
+    let mut buf = [0u8; ROOM];
+    let input = intake::read_all(&mut buf);
+    match input {
+        Input::Whole(n) => reply(&buf[..n]),
+        Input::Failed => os::fail(b"linecheck: standard input"),
+    }
+}
