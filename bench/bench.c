@@ -1,0 +1,428 @@
+// Times the proved library, the second implementation and one bare pass over the bytes, in turns, and prints the least time
+// of each with the ratios; then how time grows with the cards, and how deep the library goes into the stack.
+// It first holds the answers of the two to each other on all that is timed, and ends where they differ.
+// Usage: bench [SECONDS]
+#define _GNU_SOURCE
+#include "../include/p294.h"
+#include "headers.h"
+
+#include <stdio.h>
+#include <stdlib.h>
+#include <string.h>
+#include <time.h>
+#include <ucontext.h>
+
+enum { LIBRARY, SECOND, PASS, RUNNERS };
+enum { MOST_ROWS = 40, MOST_NUMBERS = MOST_FAULTS * ENTRY_SIZE, SOME_CARDS = 16, CARD_CALLS = 512 };
+
+enum operation { CHECK, COUNT, WHERE, READ, PUT };
+
+// What is timed: an operation on a header, or on some cards of one code in turn; its least time by each, in ns a call.
+struct row {
+    char name[64];
+    enum operation operation;
+    const struct made *header;
+    uint8_t cards[SOME_CARDS][CARD_SIZE];
+    size_t field, calls;
+    enum value_kind kind;
+    uint64_t key_class;
+    struct key key;
+    double least[RUNNERS];
+};
+
+static struct row rows[MOST_ROWS];
+static unsigned count;
+
+static uint32_t list[MOST_NUMBERS], second_list[MOST_NUMBERS];
+static int64_t numbers[P294_NUMBERS];
+static volatile int64_t sink;
+
+static void fail(const struct row *r, const char *what)
+{
+    fprintf(stderr, "bench: %s: %s\n", r->name, what);
+    exit(EXIT_FAILURE);
+}
+
+// What is timed.
+
+// The number that the k-th call puts: of one to four digits, the last behind the point of a decimal.
+static int64_t number_at(size_t k)
+{
+    return (int64_t)(1 + k * 37 % 9999);
+}
+
+static int64_t ask_library(const struct row *r)
+{
+    const struct made *h = r->header;
+    return (r->operation == COUNT ? p294_definitions : p294_place)(h->at, h->size, r->key_class, (size_t)r->key.kind + 1,
+                                                                   r->key.first, r->key.second, r->key.text, r->key.length,
+                                                                   numbers, P294_NUMBERS);
+}
+
+static void by_library(struct row *r)
+{
+    const struct made *h = r->header;
+    for (size_t k = 0; k < r->calls; k++) {
+        uint8_t *card = r->cards[k % SOME_CARDS];
+        switch (r->operation) {
+        case CHECK: sink = p294_check(h->at, h->size, list, MOST_NUMBERS, numbers, P294_NUMBERS); break;
+        case READ: sink = p294_read_field(card, CARD_SIZE, r->field, 0, numbers, P294_NUMBERS); break;
+        case PUT:
+            sink = p294_put(card, CARD_SIZE, r->field, 0, r->kind, number_at(k), r->kind == VALUE_DECIMAL, 0, numbers,
+                            P294_NUMBERS);
+            break;
+        default: sink = ask_library(r);
+        }
+    }
+}
+
+static int64_t ask_second(const struct row *r)
+{
+    size_t number = 0;
+    struct place place = {0, 0};
+    if (r->operation == COUNT)
+        count_definitions(r->header->at, r->header->size, r->key_class, &r->key, &number);
+    else
+        find_definition(r->header->at, r->header->size, r->key_class, &r->key, &place);
+    return r->operation == COUNT ? (int64_t)number : place.card;
+}
+
+static void by_second(struct row *r)
+{
+    size_t faults;
+    struct value v = {.kind = r->kind, .places = r->kind == VALUE_DECIMAL};
+    for (size_t k = 0; k < r->calls; k++) {
+        uint8_t *card = r->cards[k % SOME_CARDS];
+        switch (r->operation) {
+        case CHECK: sink = check_ties(r->header->at, r->header->size, second_list, MOST_NUMBERS, &faults).number; break;
+        case READ: sink = read_field(card, CARD_SIZE, r->field, 0, &v).number; break;
+        case PUT:
+            v.units = number_at(k);
+            sink = put_value(card, CARD_SIZE, r->field, 0, &v).number;
+            break;
+        default: sink = ask_second(r);
+        }
+    }
+}
+
+// Whether every byte is one that a card may have.
+static __attribute__((noinline)) int pass_over(const uint8_t *bytes, size_t size)
+{
+    for (size_t i = 0; i < size; i++)
+        if (bytes[i] < 32 || bytes[i] > 126)
+            return 0;
+    return 1;
+}
+
+static void by_pass(struct row *r)
+{
+    for (size_t k = 0; k < r->calls; k++)
+        sink = r->header ? pass_over(r->header->at, r->header->size) : pass_over(r->cards[k % SOME_CARDS], CARD_SIZE);
+}
+
+// The same answers by both.
+
+static void hold_check(struct row *r)
+{
+    size_t faults = 0;
+    memset(list, 0, sizeof list);
+    memset(second_list, 0, sizeof second_list);
+    struct refusal s = check_ties(r->header->at, r->header->size, second_list, MOST_NUMBERS, &faults);
+    int64_t said = p294_check(r->header->at, r->header->size, list, MOST_NUMBERS, numbers, P294_NUMBERS);
+    if (said != (s.number ? -(int64_t)s.number : (int64_t)faults) || numbers[0] != s.number || numbers[1] != s.card ||
+        numbers[2] != s.column || memcmp(list, second_list, sizeof list) != 0)
+        fail(r, "the answers differ");
+}
+
+static void hold_read(struct row *r, const uint8_t *card)
+{
+    struct value v = {0};
+    struct refusal s = read_field(card, CARD_SIZE, r->field, 0, &v);
+    int64_t said = p294_read_field(card, CARD_SIZE, r->field, 0, numbers, P294_NUMBERS);
+    if (s.number || v.kind != r->kind || said != (int64_t)v.kind)
+        fail(r, "a field is not read as it has to be");
+    if (v.kind == VALUE_TEXT ? numbers[0] != (int64_t)v.first || numbers[1] != (int64_t)v.last
+                             : numbers[0] != v.units || numbers[1] != (v.kind == VALUE_DECIMAL ? (int64_t)v.places : 0))
+        fail(r, "the values differ");
+}
+
+// As many cards are compared as were put last, so every put is compared in its turn.
+static void hold_put(struct row *r)
+{
+    static struct row copy;
+    copy = *r;
+    for (copy.calls = SOME_CARDS; copy.calls <= CARD_CALLS; copy.calls += SOME_CARDS) {
+        r->calls = copy.calls;
+        by_library(r);
+        int64_t said = sink;
+        by_second(&copy);
+        if (said != 0 || sink != 0)
+            fail(r, "a number is not put");
+        if (memcmp(r->cards, copy.cards, sizeof r->cards) != 0)
+            fail(r, "the cards differ");
+    }
+}
+
+static void hold(struct row *r)
+{
+    if (r->operation == CHECK)
+        hold_check(r);
+    for (size_t k = 0; r->operation == READ && k < SOME_CARDS; k++)
+        hold_read(r, r->cards[k]);
+    if (r->operation == PUT)
+        hold_put(r);
+    if ((r->operation == COUNT || r->operation == WHERE) && (ask_library(r) != ask_second(r) || ask_second(r) == 0))
+        fail(r, "the answers differ or a key is not there");
+}
+
+// The rows.
+
+static struct row *new_row(const char *name, enum operation operation)
+{
+    struct row *r = &rows[count++];
+    snprintf(r->name, sizeof r->name, "%s", name);
+    r->operation = operation;
+    r->calls = 1;
+    for (int i = 0; i < RUNNERS; i++)
+        r->least[i] = 1e18;
+    return r;
+}
+
+static int64_t answer_to(const struct made *h)
+{
+    return p294_check(h->at, h->size, list, MOST_NUMBERS, numbers, P294_NUMBERS);
+}
+
+// A check of a header made with so many cards, which has to answer so.
+static struct row *check_row(const char *name, void (*make)(struct made *, unsigned), unsigned cards, int64_t answer)
+{
+    struct row *r = new_row(name, CHECK);
+    struct made *h = malloc(sizeof *h);
+    if (h == NULL)
+        fail(r, "no memory");
+    make(h, cards);
+    r->header = h;
+    if (h->size != cards * (size_t)CARD_SIZE || answer_to(h) != answer)
+        fail(r, "the header is not what it has to be");
+    return r;
+}
+
+// An operation on a field of the cards with a code.
+static void card_row(const char *name, enum operation operation, const struct made *h, const char *code, size_t field,
+                     enum value_kind kind)
+{
+    struct row *r = new_row(name, operation);
+    unsigned n = 0;
+    r->field = field;
+    r->kind = kind;
+    r->calls = CARD_CALLS;
+    while (n < SOME_CARDS)
+        for (const uint8_t *card = h->at; card < h->at + h->size && n < SOME_CARDS; card += CARD_SIZE)
+            if (memcmp(card, code, CODE_SIZE) == 0)
+                memcpy(r->cards[n++], card, CARD_SIZE);
+}
+
+static void question_row(const char *name, enum operation operation, const struct made *h, uint64_t key_class,
+                         struct key key)
+{
+    struct row *r = new_row(name, operation);
+    r->header = h;
+    r->key_class = key_class;
+    r->key = key;
+}
+
+static void card_rows(const struct made *h)
+{
+    static const uint8_t serial[] = "A000300";
+    question_row("key question: how often a node is defined", COUNT, h, P294_NODE,
+                 (struct key){.kind = KEY_WHOLE, .first = 300});
+    question_row("key question: where a serial is defined", WHERE, h, P294_SERIAL,
+                 (struct key){.kind = KEY_TEXT, .text = serial, .length = sizeof serial - 1});
+    card_row("field read: whole number", READ, h, "H2210", 2, VALUE_WHOLE);
+    card_row("field read: decimal", READ, h, "H2310", 2, VALUE_DECIMAL);
+    card_row("field read: last of 18", READ, h, "H2310", 18, VALUE_DECIMAL);
+    card_row("field read: text", READ, h, "H2210", 3, VALUE_TEXT);
+    card_row("field read: angle", READ, h, "H0101", 2, VALUE_ANGLE);
+    card_row("number put: whole", PUT, h, "H2210", 2, VALUE_WHOLE);
+    card_row("number put: decimal", PUT, h, "H2310", 2, VALUE_DECIMAL);
+}
+
+// Headers of growing size.
+static const unsigned sizes[] = {100, 200, 400, 800};
+enum { SIZES = 4 };
+
+struct grown {
+    const char *name;
+    void (*make)(struct made *, unsigned);
+    struct row *rows[SIZES];
+};
+static struct grown grown[] = {{"check: clean", make_clean, {0}},
+                               {"check: as many faults as can be", make_worst, {0}},
+                               {"check: one node and serial throughout", make_equal, {0}},
+                               {"check: serials of one chain", make_crowded, {0}}};
+enum { CLEAN, WORST, EQUAL, CROWDED, GROWN };
+
+// The faults that a header of a kind and a size has to have: each compass has two, its correction one.
+static int64_t faults_of(unsigned kind, const struct made *h)
+{
+    int64_t cards = (int64_t)(h->size / CARD_SIZE), compasses = 0;
+    for (const uint8_t *card = h->at; card < h->at + h->size; card += CARD_SIZE)
+        compasses += memcmp(card, "H2310", CODE_SIZE) == 0;
+    return kind == WORST ? 2 + 5 * (cards - 9) : kind == EQUAL ? 3 * compasses : 0;
+}
+
+static void make_rows(void)
+{
+    static struct made h;
+    for (unsigned g = 0; g < GROWN; g++)
+        for (unsigned k = 0; k < SIZES; k++) {
+            grown[g].make(&h, sizes[k]);
+            grown[g].rows[k] = check_row(grown[g].name, grown[g].make, sizes[k], faults_of(g, &h));
+        }
+    check_row("check: 50 faults", make_faulty, MOST_CARDS, 50);
+    check_row("check: refused at the last column of the last card", make_late, MOST_CARDS, -P294_NO_FIELD_HERE);
+    card_rows(grown[CLEAN].rows[SIZES - 1]->header);
+}
+
+// Time.
+
+static double now(clockid_t clock)
+{
+    struct timespec t;
+    clock_gettime(clock, &t);
+    return 1e9 * (double)t.tv_sec + (double)t.tv_nsec;
+}
+
+// In the processor's time, so that others on a busy machine are not counted.
+static void time_once(struct row *r)
+{
+    static void (*const runners[RUNNERS])(struct row *) = {by_library, by_second, by_pass};
+    for (int i = 0; i < RUNNERS; i++) {
+        double from = now(CLOCK_THREAD_CPUTIME_ID);
+        runners[i](r);
+        double took = (now(CLOCK_THREAD_CPUTIME_ID) - from) / (double)r->calls;
+        if (took < r->least[i])
+            r->least[i] = took;
+    }
+}
+
+static unsigned time_all(double seconds)
+{
+    unsigned rounds = 0;
+    for (double from = now(CLOCK_MONOTONIC); rounds < 5 || now(CLOCK_MONOTONIC) - from < seconds * 1e9; rounds++)
+        for (unsigned k = 0; k < count; k++)
+            time_once(&rows[k]);
+    return rounds;
+}
+
+static void print_time(double ns)
+{
+    printf(" %.*f |", ns >= 1e5 ? 0 : ns >= 1e4 ? 1 : 3, ns / 1e3);
+}
+
+static int is_small(const struct row *r)
+{
+    return r->header && r->header->size < MOST_CARDS * CARD_SIZE;
+}
+
+static void print_rows(unsigned rounds)
+{
+    printf("Least of %u rounds, in microseconds of the processor's time a call. Headers are of 800 cards.\n\n", rounds);
+    printf("| what | library | second | pass | library / second | library / pass |\n|---|---:|---:|---:|---:|---:|\n");
+    for (const struct row *r = rows; r < rows + count; r++) {
+        if (is_small(r))
+            continue;
+        printf("| %s |", r->name);
+        for (int i = 0; i < RUNNERS; i++)
+            print_time(r->least[i]);
+        printf(" %.2f | %.1f |\n", r->least[LIBRARY] / r->least[SECOND], r->least[LIBRARY] / r->least[PASS]);
+    }
+}
+
+static void print_growth(void)
+{
+    static const char *const by[RUNNERS] = {"library", "second", "pass"};
+    printf("\nMicroseconds by the number of cards, and the last by the first: 8 where time is the cards'.\n\n");
+    printf("| what | by | 100 | 200 | 400 | 800 | 800 / 100 |\n|---|---|---:|---:|---:|---:|---:|\n");
+    for (unsigned g = 0; g < GROWN; g++)
+        for (int i = 0; i < (g == 0 ? RUNNERS : PASS); i++) {
+            printf("| %s | %s |", grown[g].name, by[i]);
+            for (unsigned k = 0; k < SIZES; k++)
+                print_time(grown[g].rows[k]->least[i]);
+            printf(" %.1f |\n", grown[g].rows[SIZES - 1]->least[i] / grown[g].rows[0]->least[i]);
+        }
+}
+
+// The stack.
+
+enum { PAINT = 0xa5, STACK = 1 << 20 };
+static const struct made *deep;
+static const struct row *asked;
+
+static void nothing(void)
+{
+    sink = 0;
+}
+
+static void check_by_library(void)
+{
+    sink = answer_to(deep);
+}
+
+static void check_by_second(void)
+{
+    size_t faults;
+    sink = check_ties(deep->at, deep->size, second_list, MOST_NUMBERS, &faults).number;
+}
+
+static void question_to_library(void)
+{
+    sink = ask_library(asked);
+}
+
+// The bytes from the top of a painted stack down to the lowest that a call wrote.
+static size_t depth_of(void (*call)(void))
+{
+    static uint8_t stack[STACK];
+    ucontext_t here, there;
+    size_t i = 0;
+    memset(stack, PAINT, sizeof stack);
+    if (getcontext(&there) != 0)
+        exit(EXIT_FAILURE);
+    there.uc_stack.ss_sp = stack;
+    there.uc_stack.ss_size = sizeof stack;
+    there.uc_link = &here;
+    makecontext(&there, call, 0);
+    if (swapcontext(&here, &there) != 0)
+        exit(EXIT_FAILURE);
+    while (i < sizeof stack && stack[i] == PAINT)
+        i++;
+    return sizeof stack - i;
+}
+
+static void print_stack(void)
+{
+    size_t without = depth_of(nothing);
+    deep = grown[WORST].rows[SIZES - 1]->header;
+    for (asked = rows; asked->operation != WHERE; asked++)
+        ;
+    printf("\nStack, in bytes from the call down to the lowest that was written:\n\n");
+    printf("| call | bytes |\n|---|---:|\n");
+    printf("| p294_check, 800 cards, as many faults as can be | %zu |\n", depth_of(check_by_library) - without);
+    printf("| p294_place, 800 cards | %zu |\n", depth_of(question_to_library) - without);
+    printf("| the second implementation's check | %zu |\n", depth_of(check_by_second) - without);
+}
+
+int main(int argc, char **argv)
+{
+    double seconds = argc > 1 ? strtod(argv[1], NULL) : 15;
+    make_rows();
+    for (unsigned k = 0; k < count; k++)
+        hold(&rows[k]);
+    printf("Both give the same answers in all %u cases.\n", count);
+    fflush(stdout);
+    print_rows(time_all(seconds));
+    print_growth();
+    print_stack();
+    return EXIT_SUCCESS;
+}

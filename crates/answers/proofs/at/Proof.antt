@@ -1,0 +1,30 @@
+-- `answers::at` meets its contract.
+use mathlib.Core.Path.{_≡_, refl, sym, ap, _∙_}
+use Rattle.answers.proofs.Steps.{back, alike}
+use Rattle.answers.specs.Replies.{atReply}
+use borrow.Author.Needs.{needs}
+use Rattle.answers.proofs.at.Statement.{statement}
+use Rattle.answers.proofs.at.Tie as tie
+use Rattle.answers.proofs.at.Reads as reads
+use Rattle.answers.proofs.at.Lts as lts
+use Rattle.answers.proofs.plain_of.Reads as plain-of-reads
+
+-- src/lib.rt:189:15
+plain-of-requires : tie.Need-plain-of-requires
+plain-of-requires c κs = search needs
+
+-- src/lib.rt:190:16
+plain-of-requires-2 : tie.Need-plain-of-requires-2
+plain-of-requires-2 c κs = search needs
+
+-- src/lib.rt:191:17
+plain-of-requires-3 : tie.Need-plain-of-requires-3
+plain-of-requires-3 c κs = search needs
+
+-- src/lib.rt:185:1
+returns : tie.Need-returns
+unfolding atReply
+returns c = alike (back _ _ (record { sfits = c .before .before .plain-of .ok }) (c .before .before .plain-of .ensures)) (back _ _ (record { sfits = c .before .plain-of2 .ok }) (c .before .plain-of2 .ensures)) (back _ _ (record { sfits = c .plain-of3 .ok }) (c .plain-of3 .ensures)) refl
+
+pub at-spec : {M : Type 1} → statement M
+at-spec = tie.close (tie.spec plain-of-requires plain-of-requires-2 plain-of-requires-3 returns)

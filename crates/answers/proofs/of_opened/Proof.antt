@@ -1,0 +1,41 @@
+-- `answers::of_opened` meets its contract.
+use mathlib.Core.Path.{_≡_, refl, sym, ap, _∙_}
+use Rattle.answers.specs.Replies.{openedReply}
+use borrow.Author.Needs.{needs}
+use Rattle.answers.proofs.of_opened.Statement.{statement}
+use Rattle.answers.proofs.of_opened.Tie as tie
+use Rattle.answers.proofs.of_opened.Reads as reads
+use Rattle.answers.proofs.of_opened.Lts as lts
+use Rattle.answers.proofs.done.Reads as done-reads
+use Rattle.answers.proofs.refused.Reads as refused-reads
+
+-- src/lib.rt:165:25
+enum-told : tie.Need-enum-told
+enum-told c = search needs
+
+-- src/lib.rt:165:25
+done-requires : tie.Need-done-requires
+done-requires c κs = search needs
+
+-- src/lib.rt:166:25
+enum-known-opened : tie.Need-enum-known-opened
+enum-known-opened c = search needs
+
+-- src/lib.rt:166:31
+refused-requires : tie.Need-refused-requires
+refused-requires c κs = search needs
+
+-- src/lib.rt:161:1
+returns : tie.Need-returns
+unfolding openedReply
+returns c = c .done .ensures ∙ sym (ap openedReply (c .before .enum-told .given .1))
+
+-- src/lib.rt:161:1
+returns-2 : tie.Need-returns-2
+unfolding openedReply
+returns-2 c = c .refused .ensures ∙ sym (ap openedReply (c .before .before .opened .given .1))
+
+pub of-opened-spec : {M : Type 1} → statement M
+of-opened-spec =
+    tie.close
+    (tie.spec enum-told done-requires enum-known-opened refused-requires returns returns-2)

@@ -1,0 +1,65 @@
+-- `p294::p294_definitions` meets its contract.
+use denote.Ref.{now}
+use mathlib.Core.Path.{_≡_, refl, sym, ap, _∙_}
+use mir.Syntax.{w64}
+use mir.ValLaws.{toZ-ofZ}
+use Rattle.ties.specs.Questions.{definitionsFor}
+use Rattle.offers.proofs.Steps.{same-key, asked}
+use Rattle.answers.specs.Replies.{definitionsReply}
+use Rattle.answers.proofs.Steps.{answered}
+use borrow.Author.Needs.{needs}
+use Rattle.p294.proofs.p294_definitions.Statement.{statement}
+use Rattle.p294.proofs.p294_definitions.Tie as tie
+use Rattle.p294.proofs.p294_definitions.Reads as reads
+use Rattle.p294.proofs.p294_definitions.Lts as lts
+use Rattle.answers.proofs.give.Reads as give-reads
+use Rattle.answers.proofs.of_definitions.Reads as of-definitions-reads
+use Rattle.offers.proofs.key_of.Reads as key-of-reads
+use Rattle.offers.proofs.key_text.Reads as key-text-reads
+use Rattle.ties.proofs.definitions_of.Reads as definitions-of-reads
+
+-- src/lib.rt:133:9
+key-of-requires : tie.Need-key-of-requires
+key-of-requires c κs = search needs
+
+-- src/lib.rt:134:9
+key-text-requires : tie.Need-key-text-requires
+key-text-requires c κs = search needs
+
+-- src/lib.rt:135:41
+definitions-of-requires : tie.Need-definitions-of-requires
+definitions-of-requires c κs = search needs
+
+-- src/lib.rt:135:9
+of-definitions-requires : tie.Need-of-definitions-requires
+of-definitions-requires c κs = search needs
+
+-- src/lib.rt:136:5
+give-requires : tie.Need-give-requires
+give-requires c κs = search needs
+
+-- src/lib.rt:118:1
+same-length : tie.Need-same-length
+same-length c = search needs
+
+-- src/lib.rt:118:1
+returns : tie.Need-returns
+returns c =
+    let key = c .before .before .before .before .before .before .key-of .ensures
+    ∙ same-key (c .before .before .before .before .before .before .before .before .before .args .kind) (c .before .before .before .before .before .before .before .before .before .args .a) (c .before .before .before .before .before .before .before .before .before .args .b) _ _ (toZ-ofZ w64 _ (c .before .before .before .before .before .before .before .before .before .fits .a)) (toZ-ofZ w64 _ (c .before .before .before .before .before .before .before .before .before .fits .b)) in
+    answered (now (c .before .before .before .before .before .before .before .before .before .args .numbers)) _ (c .before .before .before .of-definitions .result) _ _ (record { sfits = c .before .give .ok })
+    (c .before .give .ensures .0) (c .before .give .ensures .1)
+    (c .before .before .before .of-definitions .ensures ∙ ap definitionsReply (c .before .before .before .before .definitions-of .ensures
+    ∙ asked (definitionsFor (now (c .before .before .before .before .before .before .before .before .before .args .header)) (c .before .before .before .before .before .before .before .before .before .args .class)) _ _ _ _ key (c .before .before .before .before .before .key-text .ensures)))
+
+pub p294-definitions-spec : {M : Type 1} → statement M
+p294-definitions-spec =
+    tie.close
+    (tie.spec
+    key-of-requires
+    key-text-requires
+    definitions-of-requires
+    of-definitions-requires
+    give-requires
+    same-length
+    returns)

@@ -1,0 +1,65 @@
+-- `p294::p294_place` meets its contract.
+use denote.Ref.{now}
+use mathlib.Core.Path.{_≡_, refl, sym, ap, _∙_}
+use mir.Syntax.{w64}
+use mir.ValLaws.{toZ-ofZ}
+use Rattle.ties.specs.Questions.{placeFor}
+use Rattle.offers.proofs.Steps.{same-key, asked}
+use Rattle.answers.specs.Replies.{placeReply}
+use Rattle.answers.proofs.Steps.{answered}
+use borrow.Author.Needs.{needs}
+use Rattle.p294.proofs.p294_place.Statement.{statement}
+use Rattle.p294.proofs.p294_place.Tie as tie
+use Rattle.p294.proofs.p294_place.Reads as reads
+use Rattle.p294.proofs.p294_place.Lts as lts
+use Rattle.answers.proofs.give.Reads as give-reads
+use Rattle.answers.proofs.of_place.Reads as of-place-reads
+use Rattle.offers.proofs.key_of.Reads as key-of-reads
+use Rattle.offers.proofs.key_text.Reads as key-text-reads
+use Rattle.ties.proofs.place_of.Reads as place-of-reads
+
+-- src/lib.rt:155:9
+key-of-requires : tie.Need-key-of-requires
+key-of-requires c κs = search needs
+
+-- src/lib.rt:156:9
+key-text-requires : tie.Need-key-text-requires
+key-text-requires c κs = search needs
+
+-- src/lib.rt:157:35
+place-of-requires : tie.Need-place-of-requires
+place-of-requires c κs = search needs
+
+-- src/lib.rt:157:9
+of-place-requires : tie.Need-of-place-requires
+of-place-requires c κs = search needs
+
+-- src/lib.rt:158:5
+give-requires : tie.Need-give-requires
+give-requires c κs = search needs
+
+-- src/lib.rt:140:1
+same-length : tie.Need-same-length
+same-length c = search needs
+
+-- src/lib.rt:140:1
+returns : tie.Need-returns
+returns c =
+    let key = c .before .before .before .before .before .before .key-of .ensures
+    ∙ same-key (c .before .before .before .before .before .before .before .before .before .args .kind) (c .before .before .before .before .before .before .before .before .before .args .a) (c .before .before .before .before .before .before .before .before .before .args .b) _ _ (toZ-ofZ w64 _ (c .before .before .before .before .before .before .before .before .before .fits .a)) (toZ-ofZ w64 _ (c .before .before .before .before .before .before .before .before .before .fits .b)) in
+    answered (now (c .before .before .before .before .before .before .before .before .before .args .numbers)) _ (c .before .before .before .of-place .result) _ _ (record { sfits = c .before .give .ok })
+    (c .before .give .ensures .0) (c .before .give .ensures .1)
+    (c .before .before .before .of-place .ensures ∙ ap placeReply (c .before .before .before .before .place-of .ensures
+    ∙ asked (placeFor (now (c .before .before .before .before .before .before .before .before .before .args .header)) (c .before .before .before .before .before .before .before .before .before .args .class)) _ _ _ _ key (c .before .before .before .before .before .key-text .ensures)))
+
+pub p294-place-spec : {M : Type 1} → statement M
+p294-place-spec =
+    tie.close
+    (tie.spec
+    key-of-requires
+    key-text-requires
+    place-of-requires
+    of-place-requires
+    give-requires
+    same-length
+    returns)

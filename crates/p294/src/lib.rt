@@ -1,0 +1,159 @@
+// The doors for programs in other languages: each takes numbers and bytes, and answers in numbers. include/p294.h says
+// what each number means; crate `answers` defines it.
+ghost use mathlib.Core.Path.{_≡_};
+ghost use lib.ListN.{length};
+ghost use Rattle.field.specs.Reading.{fieldReading};
+ghost use Rattle.opening.specs.Opening.{openedOf, openedCard};
+ghost use Rattle.entry.specs.Putting.{answerOf, leftBy, puttingOf, puttingTextOf};
+ghost use Rattle.header.specs.Refusing.{refusalOf};
+ghost use Rattle.broken.specs.Faults.{faults, entries};
+ghost use Rattle.ties.specs.Answer.{answerFor, listFor};
+ghost use Rattle.ties.specs.Questions.{definitionsFor, placeFor};
+ghost use Rattle.offers.specs.Offers.{offeredOf, keyOf, keyTextOf};
+ghost use Rattle.answers.specs.Replies.{fieldReply, textReply, enteredReply, openedReply, tiesReply, definitionsReply, placeReply, given};
+
+// What stands in the field with a number, its coordinates in the form that is given.
+#[no_mangle]
+pub extern "C" fn p294_read_field(
+    card: &[u8],
+    number: usize,
+    form: usize,
+    numbers: &mut [i64],
+) -> i64
+    ensures said { λ r. ⌜ r ≡ fieldReply (fieldReading (now (card .entry)) number form) .said ⌝ }
+    ensures numbers { λ _. ⌜ now (numbers .exit)
+        ≡ given (now (numbers .entry)) (fieldReply (fieldReading (now (card .entry)) number form)) ⌝ }
+{
+    let reply = answers::of_field(field::read_field(card, number, form));
+    answers::give(numbers, reply)
+}
+
+// The columns of the text in the field with a number.
+#[no_mangle]
+pub extern "C" fn p294_read_text(
+    card: &[u8],
+    number: usize,
+    form: usize,
+    numbers: &mut [i64],
+) -> i64
+    ensures said { λ r. ⌜ r ≡ textReply (fieldReading (now (card .entry)) number form) .said ⌝ }
+    ensures numbers { λ _. ⌜ now (numbers .exit)
+        ≡ given (now (numbers .entry)) (textReply (fieldReading (now (card .entry)) number form)) ⌝ }
+{
+    let reply = answers::of_text(field::read_field(card, number, form));
+    answers::give(numbers, reply)
+}
+
+// A new card of a code.
+#[no_mangle]
+pub extern "C" fn p294_open(card: &mut [u8], code: &[u8], numbers: &mut [i64]) -> i64
+    ensures said { λ r. ⌜ r ≡ openedReply (openedOf (now (code .entry)) (length (now (card .entry)))) .said ⌝ }
+    ensures numbers { λ _. ⌜ now (numbers .exit)
+        ≡ given (now (numbers .entry)) (openedReply (openedOf (now (code .entry)) (length (now (card .entry))))) ⌝ }
+    ensures card { λ _. ⌜ now (card .exit) ≡ openedCard (now (code .entry)) (now (card .entry)) ⌝ }
+{
+    let reply = answers::of_opened(opening::open(card, code));
+    answers::give(numbers, reply)
+}
+
+// Puts a value, offered as its kind and three numbers, into the field with a number.
+#[no_mangle]
+pub extern "C" fn p294_put(
+    card: &mut [u8],
+    number: usize,
+    form: usize,
+    kind: usize,
+    a: i64,
+    b: usize,
+    c: usize,
+    numbers: &mut [i64],
+) -> i64
+    ensures said { λ r. ⌜ r
+        ≡ enteredReply (answerOf (puttingOf (now (card .entry)) number form (offeredOf kind a b c))) .said ⌝ }
+    ensures numbers { λ _. ⌜ now (numbers .exit)
+        ≡ given (now (numbers .entry)) (enteredReply (answerOf (puttingOf (now (card .entry)) number form (offeredOf kind a b c)))) ⌝ }
+    ensures card { λ _. ⌜ now (card .exit)
+        ≡ leftBy (puttingOf (now (card .entry)) number form (offeredOf kind a b c)) (now (card .entry)) ⌝ }
+{
+    let value = offers::offered(kind, a, b, c);
+    let reply = answers::of_entered(entry::put(card, number, form, value));
+    answers::give(numbers, reply)
+}
+
+// Puts a text into the field with a number.
+#[no_mangle]
+pub extern "C" fn p294_put_text(
+    card: &mut [u8],
+    number: usize,
+    form: usize,
+    text: &[u8],
+    numbers: &mut [i64],
+) -> i64
+    ensures said { λ r. ⌜ r
+        ≡ enteredReply (answerOf (puttingTextOf (now (card .entry)) number form (now (text .entry)))) .said ⌝ }
+    ensures numbers { λ _. ⌜ now (numbers .exit)
+        ≡ given (now (numbers .entry)) (enteredReply (answerOf (puttingTextOf (now (card .entry)) number form (now (text .entry))))) ⌝ }
+    ensures card { λ _. ⌜ now (card .exit)
+        ≡ leftBy (puttingTextOf (now (card .entry)) number form (now (text .entry))) (now (card .entry)) ⌝ }
+{
+    let reply = answers::of_entered(entry::put_text(card, number, form, text));
+    answers::give(numbers, reply)
+}
+
+// The number of all faults of a header, with their entries in the list as far as they fit; or its refusal.
+#[no_mangle]
+pub extern "C" fn p294_check(header: &[u8], list: &mut [u32], numbers: &mut [i64]) -> i64
+    ensures said { λ r. ⌜ r
+        ≡ tiesReply (answerFor (refusalOf (now (header .entry))) (length (faults (now (header .entry))))) .said ⌝ }
+    ensures numbers { λ _. ⌜ now (numbers .exit)
+        ≡ given (now (numbers .entry)) (tiesReply (answerFor (refusalOf (now (header .entry))) (length (faults (now (header .entry)))))) ⌝ }
+    ensures list { λ _. ⌜ now (list .exit)
+        ≡ listFor (refusalOf (now (header .entry))) (now (list .entry)) (entries (faults (now (header .entry)))) ⌝ }
+{
+    let reply = answers::of_ties(ties::check(header, list));
+    answers::give(numbers, reply)
+}
+
+// How often a key of a class, offered as its kind with two numbers or a text, is defined.
+#[no_mangle]
+pub extern "C" fn p294_definitions(
+    header: &[u8],
+    class: u64,
+    kind: usize,
+    a: i64,
+    b: i64,
+    text: &[u8],
+    numbers: &mut [i64],
+) -> i64
+    ensures said { λ r. ⌜ r
+        ≡ definitionsReply (definitionsFor (now (header .entry)) class (keyOf kind a b) (keyTextOf kind (now (text .entry)))) .said ⌝ }
+    ensures numbers { λ _. ⌜ now (numbers .exit)
+        ≡ given (now (numbers .entry)) (definitionsReply (definitionsFor (now (header .entry)) class (keyOf kind a b) (keyTextOf kind (now (text .entry))))) ⌝ }
+{
+    let key = offers::key_of(kind, a, b);
+    let bytes = offers::key_text(kind, text);
+    let reply = answers::of_definitions(ties::definitions_of(header, class, key, bytes));
+    answers::give(numbers, reply)
+}
+
+// The card and the column of its only definition.
+#[no_mangle]
+pub extern "C" fn p294_place(
+    header: &[u8],
+    class: u64,
+    kind: usize,
+    a: i64,
+    b: i64,
+    text: &[u8],
+    numbers: &mut [i64],
+) -> i64
+    ensures said { λ r. ⌜ r
+        ≡ placeReply (placeFor (now (header .entry)) class (keyOf kind a b) (keyTextOf kind (now (text .entry)))) .said ⌝ }
+    ensures numbers { λ _. ⌜ now (numbers .exit)
+        ≡ given (now (numbers .entry)) (placeReply (placeFor (now (header .entry)) class (keyOf kind a b) (keyTextOf kind (now (text .entry))))) ⌝ }
+{
+    let wanted = offers::key_of(kind, a, b);
+    let spelled = offers::key_text(kind, text);
+    let reply = answers::of_place(ties::place_of(header, class, wanted, spelled));
+    answers::give(numbers, reply)
+}

@@ -1,0 +1,146 @@
+/* UKOOA P2/94 line headers: fields, cards, headers and the ties between cards, read, written and checked.
+ *
+ * Link with libp294.a, which `rt staticlib p294` writes to target/staticlib (x86-64 Linux, System V calls). The functions
+ * keep nothing between calls, allocate nothing and want only memcpy and memset of the C library, so they may be called from
+ * any thread. p294_check takes some 57,000 bytes of stack, the others some 4,000 (measured; nothing is proved of the stack).
+ *
+ * A CARD is 80 bytes, 32 to 126 each. Columns, cards and fields count from 1; the fields of a code are numbered from left
+ * to right, a label being none. A HEADER is at most 800 cards, one behind the other, with no separators.
+ *
+ * A FORM says how coordinates are spelled: 0 angles, 1 grid. It is never guessed; every function that takes a form wants
+ * 0 or 1 for every code, also for one without coordinates.
+ *
+ * Bytes go in as a pointer and a length, and may have any length and any content: what is not a card or a header is
+ * refused by a number. The same holds of every number that goes in. What is asked of the caller is what C always asks:
+ * - a pointer points to as many bytes or numbers as its length says, of its type, aligned for it, and for no more than
+ *   2^63 - 1 bytes; it is not null, also where the length is 0;
+ * - what a function may write (card, list, numbers) overlaps nothing else that the same call is lent, and nobody else
+ *   reads or writes it meanwhile.
+ *
+ * HOW A FUNCTION ANSWERS. Each returns one number, and writes three more:
+ *
+ *     int64_t numbers[P294_NUMBERS];
+ *     int64_t said = p294_read_field(card, 80, 1, 0, numbers, P294_NUMBERS);
+ *
+ * - said < 0: refused. -said is the refusal's number, and numbers are that number, the card and the column (each 0 where
+ *   there is none). Nothing else was written: card and list are as they were.
+ * - said >= 0: answered. What said and numbers mean stands at the function; numbers that are not mentioned are 0.
+ *
+ * numbers[0] to numbers[2] are written, and nothing behind them. Where the lent numbers are fewer than three (`room` is
+ * below P294_NUMBERS) none is written, and all else happens just the same.
+ *
+ * Numbers that count or place something are given up to 10^18; there are no larger ones.
+ */
+#ifndef P294_H
+#define P294_H
+
+#include <stddef.h>
+#include <stdint.h>
+
+#ifdef __cplusplus
+extern "C" {
+#endif
+
+/* How many numbers go with an answer; the bytes of a card and of a code; the most cards of a header. */
+enum { P294_NUMBERS = 3, P294_CARD = 80, P294_CODE = 5, P294_CARDS = 800 };
+
+/* Refusals. On a single card the card is 1, but card and column are 0 for 1, 2, 13 and a refused form. */
+enum {
+    P294_EMPTY = 1,         /* length 0; card and column 0 */
+    P294_LENGTH = 2,        /* not whole cards; for one card, not 80 bytes; card and column 0 */
+    P294_TOO_MANY = 3,      /* more than 800 cards; card and column 0 */
+    P294_BYTE = 4,          /* a byte outside 32..126, at its column; of a text that is put, column 0 */
+    P294_UNKNOWN_CODE = 5,  /* column 1 */
+    P294_OUT_OF_PLACE = 6,  /* the opening cards are not in order, or missing: then one card past the end; column 1 */
+    P294_NO_FIELD_HERE = 7, /* something stands in a column that no field covers, at that column */
+    P294_LABEL = 8,         /* the label differs; column 6 */
+    P294_MALFORMED = 9,     /* a field badly formed, at its first column; of a text that is put, column 0 */
+    P294_OUT_OF_RANGE = 10, /* well formed, outside its range, at its first column; a value that is put, column 0; or a
+                               form other than 0 and 1, card and column 0 */
+    P294_NEEDED = 11,       /* a needed field is blank, or would be after a put; its first column */
+    P294_OTHER_KIND = 12,   /* put: a value of another kind than the field; column 0 */
+    P294_NO_SUCH = 13,      /* no field with this number in this code, or no such class of keys; card and column 0 */
+    P294_NO_ROOM = 14       /* put: does not fit the columns; column 0 */
+};
+
+/* Kinds of value, with the numbers that go with each. */
+enum {
+    P294_ABSENT = 0,  /* nothing but blanks */
+    P294_WHOLE = 1,   /* the number */
+    P294_DECIMAL = 2, /* units, and how many of their digits stand behind the point: 1.50 is 150 and 2 */
+    P294_ANGLE = 3,   /* thousandths of a second of arc, below zero for south and west */
+    P294_DATE = 4,    /* year, month, day */
+    P294_TEXT = 5     /* the text's first and last column on the card; trailing blanks do not belong to it */
+};
+
+/* Reads the field with a number. said is the kind of its value, numbers what goes with it. A number that was read is
+ * a decimal in an N field, also with no places, and whole in an I field; a coordinate is an angle in form 0 and a decimal
+ * in form 1. Refused 1, 2, 4, 5, 13, 10 (form), and then 11, 9, 10 of this field; nothing else of the card is looked at. */
+int64_t p294_read_field(const uint8_t *card, size_t length, size_t field, size_t form, int64_t *numbers, size_t room);
+
+/* The columns of the text in a field. said is P294_TEXT and numbers are its first and last column, so the text is
+ * card + numbers[0] - 1 and has numbers[1] - numbers[0] + 1 bytes. said is 0 and so are all numbers where there is no text:
+ * the field is blank, is of another kind, or is refused (p294_read_field says why). It never refuses. */
+int64_t p294_read_text(const uint8_t *card, size_t length, size_t field, size_t form, int64_t *numbers, size_t room);
+
+/* Makes a lent card a new one: the code, the label that goes with it, and blanks, whatever stood there. said is 0.
+ * Refused 1, 2 (the card's length), 5 (the code is unknown or not five bytes). */
+int64_t p294_open(uint8_t *card, size_t length, const uint8_t *code, size_t code_length, int64_t *numbers, size_t room);
+
+/* Puts a value into a field, and changes no column outside it. said is 0. The value is given as numbers like those
+ * that p294_read_field gives: kind, then a, b, c. Absent blanks the field. A kind other than 0 to 4 is a text, which no
+ * field takes as a value (12). A part of a date that 32 bits do not hold makes it no date (10). Refused 1, 2, 4, 5, 13,
+ * 10 (form), 12, 11, 10, 14. */
+int64_t p294_put(uint8_t *card, size_t length, size_t field, size_t form, size_t kind, int64_t a, size_t b, size_t c,
+                 int64_t *numbers, size_t room);
+
+/* Puts a text into a field, and changes no column outside it. said is 0. Refused 1, 2, 4, 5, 13, 10 (form), 12, and then
+ * 4 and 9 (it is empty, ends in a blank, or begins with one where it may not) of the text, 14. */
+int64_t p294_put_text(uint8_t *card, size_t length, size_t field, size_t form, const uint8_t *text, size_t text_length,
+                      int64_t *numbers, size_t room);
+
+/* Checks a header. said is the number of all faults between its cards, and list has their entries from its front on, as
+ * many whole ones as fit: card, column, kind, ordered by these three. The rest of the list stays as it was. list_length
+ * counts numbers, not entries; 12000 are enough for every header. Refused 1 to 11, at the first offence. */
+int64_t p294_check(const uint8_t *header, size_t length, uint32_t *list, size_t list_length, int64_t *numbers, size_t room);
+
+/* Kinds of fault. */
+enum {
+    P294_UNDEFINED = 1,    /* a reference whose key has no definition */
+    P294_REDEFINED = 2,    /* a definition whose key is defined in another place too; every such place is listed */
+    P294_AMBIGUOUS = 3,    /* a reference whose key has several definitions */
+    P294_CONTRADICTED = 4, /* a vessel digit that contradicts */
+    P294_MISCOUNTED = 5    /* a stated count that differs from the number found */
+};
+
+/* Classes of keys, and the kind of key that each has. */
+enum {
+    P294_DATUM = 1,     /* whole */
+    P294_STREAMER = 2,  /* whole */
+    P294_NODE = 3,      /* whole */
+    P294_SERIAL = 4,    /* text: a compass's serial number, compared without trailing blanks */
+    P294_SENSOR = 5,    /* whole */
+    P294_VESSEL = 6,    /* whole */
+    P294_WAYPOINT = 7,  /* pair: vessel and number */
+    P294_VARIATION = 8, /* whole: a point of the variation grid */
+    P294_GRID = 9       /* whole: the variation grid, whose one key is 0 */
+};
+
+/* Kinds of key: a; a and b; the bytes of text. What a kind does not mention is not looked at. */
+enum { P294_KEY_WHOLE = 1, P294_KEY_PAIR = 2, P294_KEY_TEXT = 3 };
+
+/* How often a key is defined in a header. said is the number. A key of another kind than its class has, of no kind at all,
+ * or that no card can bear, has no definition. Refused as p294_check refuses the header, then 13 (no such class). */
+int64_t p294_definitions(const uint8_t *header, size_t length, uint64_t key_class, size_t kind, int64_t a, int64_t b,
+                         const uint8_t *text, size_t text_length, int64_t *numbers, size_t room);
+
+/* Where the only definition of a key stands. said is its card, numbers are its card and column; all are 0 where there is
+ * not exactly one definition. Refused as p294_definitions. */
+int64_t p294_place(const uint8_t *header, size_t length, uint64_t key_class, size_t kind, int64_t a, int64_t b,
+                   const uint8_t *text, size_t text_length, int64_t *numbers, size_t room);
+
+#ifdef __cplusplus
+}
+#endif
+
+#endif
