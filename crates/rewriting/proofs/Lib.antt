@@ -7,3 +7,4 @@ pub mod Anew
 pub mod Agreed
 pub mod OneSpelling
 pub mod Edge
+pub mod Guess
