@@ -1,28 +1,29 @@
 -- What each way through judging a card finds.
 use Prim.Native.Nat.{ℕ, zero, suc, _+_, _-_, _≤_, _<_}
 use native.Mathlib.Omega.{arith}
+use native.Mathlib.Decide.{ℕ-discrete}
 use mathlib.Core.Path.{_≡_, refl, sym, ap, _∙_}
 use mathlib.Core.List.{List, [], _∷_}
 use mathlib.Core.Bool.{Bool, true, false, cond, _&&_, not, true≢false}
 use lib.ListN.{length, getD, take, drop, length-drop, List·getD-eq-default}
 use lib.Seq.{length-take-le, getD-take, getD-drop, ext-getD}
 use lib.Dec.{eqb, leb, ltb}
-use borrow.Author.Tests.{eq-eqb, ne-eqb, le-leb, lt-leb, lt-ltb, le-ltb}
+use borrow.Author.Tests.{eq-eqb, ne-eqb, le-leb, lt-leb, lt-ltb, le-ltb, ltb-false}
 use Rattle.lists.specs.Count.{firstFrom}
 use Rattle.lists.specs.Parts.{alike}
+use Rattle.lists.proofs.Finding.{stops, goes, over}
 use Rattle.lists.proofs.Comparing.{equal-alike, unequal-alike}
 use Rattle.codes.specs.declared.Code.{Code}
 use Rattle.layout.specs.declared.Field.{Field}
 use Rattle.codes.specs.Codes.{codeOf}
 use Rattle.layout.specs.Layouts.{labelOf, fieldsOf}
-use Rattle.judging.specs.declared.Judged.{Judged}
 use Rattle.seeking.specs.Card.{firstBad}
-use Rattle.judging.specs.Fields.{judgedOf}
+use Rattle.judging.specs.Fields.{judgedOf, numberOf}
 use Rattle.card.specs.declared.Form.{Form}
 use Rattle.card.specs.declared.Form.the-variants as form
 use Rattle.card.specs.declared.Verdict.{Verdict}
 use Rattle.card.specs.declared.Verdict.the-variants.{Fine, Offence}
-use Rattle.card.specs.Judging.{isCoordinate, numberOf, fieldOffence, filledAt, nextVerdict, labelStands, labelOffence, offenceAt, columnOffence, verdictFrom, codeVerdict, verdictOf}
+use Rattle.card.specs.Judging.{isCoordinate, isGrid, isUnknown, fieldOffence, filledAt, nextVerdict, labelStands, labelOffence, offenceAt, columnOffence, verdictFrom, codeVerdict, verdictOf}
 use Rattle.card.proofs.Leftmost.{decides, skips, agree}
 
 -- a column that is not blank, and one that is
@@ -34,15 +35,54 @@ pub blank-here : (s : List ℕ) (c : ℕ) → getD s (c - 1) 0 ≡ 32 → filled
 unfolding filledAt
 blank-here s c h = rw (eq-eqb (getD s (c - 1) 0) 32 h)
 
--- a field whose form is not known
-module _ (k : ℕ) (s : List ℕ) (f : Field) where
-  pub unread-passed : isCoordinate (f .kind) ≡ true → fieldOffence k form.Unknown s f ≡ 0
-  unfolding fieldOffence
-  unread-passed h = rw h
+-- the columns from one on, looked at all: where c is not the first filled one a filled one came before
+module _ (s : List ℕ) (from : ℕ) where
+  pub record Blank (blank : Bool) (c : ℕ) : Type 0 where
+    pub within : c ≤ 81
+    pub so-far : blank ≡ true → firstFrom (filledAt s) (81 - from) from ≡ firstFrom (filledAt s) (81 - c) c
+    pub not-so : blank ≡ false → firstFrom (filledAt s) (81 - from) from ≤ 80
 
-  pub unread-judged : isCoordinate (f .kind) ≡ false → (j : Judged) → j ≡ judgedOf k s f false → fieldOffence k form.Unknown s f ≡ numberOf j
-  unfolding fieldOffence
-  unread-judged h j q = rw (h, q)
+  pub blank-first : from ≤ 81 → Blank true from
+  blank-first h = record { within = h; so-far = λ q. refl; not-so = λ q. absurd (true≢false q) }
+
+  pub blank-more : (blank : Bool) (c : ℕ) → c ≤ 80 → Blank blank c → Blank (blank && eqb (getD s (c - 1) 0) 32) (c + 1)
+  blank-more false c h b = record { within = omega arith; so-far = λ q. absurd (true≢false (sym q)); not-so = λ q. b .not-so refl }
+  blank-more true c h b = elim (ℕ-discrete (getD s (c - 1) 0) 32) [
+    | yes q ↦ rw (eq-eqb (getD s (c - 1) 0) 32 q) (record {
+      within = omega arith;
+      so-far = λ e. b .so-far refl ∙ goes (filledAt s) 81 c (omega arith) (blank-here s c q);
+      not-so = λ e. absurd (true≢false e);
+    })
+    | no q ↦ rw (ne-eqb (getD s (c - 1) 0) 32 q) (record {
+      within = omega arith;
+      so-far = λ e. absurd (true≢false (sym e));
+      not-so = λ e. let f : firstFrom (filledAt s) (81 - from) from ≡ c = b .so-far refl ∙ stops (filledAt s) 81 c (omega arith) (filled-here s c q) in omega arith;
+    })
+  ]
+
+  pub blank-all : (blank : Bool) (c : ℕ) → 80 < c → Blank blank c → blank ≡ ltb 80 (firstFrom (filledAt s) (81 - from) from)
+  blank-all true c h b =
+      let e : firstFrom (filledAt s) (81 - from) from ≡ c = b .so-far refl ∙ over (filledAt s) 81 c (omega arith) in
+      sym (lt-ltb 80 (firstFrom (filledAt s) (81 - from) from) (omega arith))
+  blank-all false c h b = sym (le-ltb 80 (firstFrom (filledAt s) (81 - from) from) (b .not-so refl))
+
+pub not-past : (q n : ℕ) → q ≡ n → ltb 80 n ≡ false → q ≤ 80
+not-past q n e h = omega (arith, ltb-false 80 n h)
+
+-- a field that is passed over, and one that is judged
+tested : (k : ℕ) (form : Form) (s : List ℕ) (f : Field)
+    → fieldOffence k form s f ≡ cond (isUnknown form && isCoordinate (f .kind)) 0 (numberOf (judgedOf k s f (isGrid form)))
+unfolding fieldOffence
+tested k form.Angles s f = refl
+tested k form.Grid s f = refl
+tested k form.Unknown s f = refl
+
+module _ (k : ℕ) (form : Form) (s : List ℕ) (f : Field) (a b : Bool) (unknown : a ≡ isUnknown form) (coordinate : b ≡ isCoordinate (f .kind)) where
+  pub unread : (a && b) ≡ true → fieldOffence k form s f ≡ 0
+  unread h = tested k form s f ∙ rw (← unknown, ← coordinate, h)
+
+  pub judged-field : (a && b) ≡ false → (grid : Bool) → grid ≡ isGrid form → (n : ℕ) → n ≡ numberOf (judgedOf k s f grid) → n ≡ fieldOffence k form s f
+  judged-field h grid g n q = q ∙ sym (tested k form s f ∙ rw (← unknown, ← coordinate, h, ← g))
 
 -- the columns up to a field, and the field
 module _ (k : ℕ) (form : Form) (s : List ℕ) (f : Field) (c q : ℕ) (is : q ≡ firstFrom (filledAt s) (f .first - c) c) where

@@ -13,10 +13,8 @@ use Rattle.layout.specs.declared.Kind.the-variants as kind
 use Rattle.layout.specs.declared.Field.{Field}
 use Rattle.codes.specs.Codes.{codeOf}
 use Rattle.layout.specs.Layouts.{fieldsOf, labelOf}
-use Rattle.judging.specs.declared.Judged.{Judged}
-use Rattle.judging.specs.declared.Judged.the-variants as judged
 use Rattle.seeking.specs.Card.{firstBad}
-use Rattle.judging.specs.Fields.{judgedOf}
+use Rattle.judging.specs.Fields.{judgedOf, numberOf}
 use Rattle.card.specs.declared.Form.{Form}
 use Rattle.card.specs.declared.Form.the-variants as form
 use Rattle.card.specs.declared.Verdict.{Verdict}
@@ -32,10 +30,16 @@ isCoordinate kind.Date = false
 isCoordinate kind.Latitude = true
 isCoordinate kind.Longitude = true
 
--- the number of a field's offence, 0 for none
-abbrev pub numberOf : Judged → ℕ
-numberOf (judged.Is v) = 0
-numberOf (judged.Not n) = n
+-- form 1, and a form that is not known
+abbrev pub isGrid : Form → Bool
+isGrid form.Angles = false
+isGrid form.Grid = true
+isGrid form.Unknown = false
+
+abbrev pub isUnknown : Form → Bool
+isUnknown form.Angles = false
+isUnknown form.Grid = false
+isUnknown form.Unknown = true
 
 -- the offence of a field: 9, 10, 11 or none; a coordinate whose form is not known has none
 unfoldable pub fieldOffence : ℕ → Form → List ℕ → Field → ℕ

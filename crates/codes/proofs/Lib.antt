@@ -1,4 +1,5 @@
 pub mod Places
+pub mod Worded
 pub mod Walk
 pub mod Apart
 pub mod Skip

@@ -41,11 +41,3 @@ codeOf s = codeAt (placeIn codes s)
 -- how many patterns there are
 abbrev pub patternCount : ℕ
 patternCount = length readTable + length passedTable
-
--- all patterns, five bytes each
-abbrev pub flat : List (List ℕ) → List ℕ
-flat [] = []
-flat (p ∷ ps) = p ++ flat ps
-
-unfoldable pub allCodes : List ℕ
-allCodes = flat codes

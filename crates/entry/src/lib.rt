@@ -12,7 +12,6 @@ ghost use mathlib.Core.List.{[]};
 ghost use lib.Dec.{T};
 ghost use Rattle.layout.proofs.Columns.{ranged};
 ghost use Rattle.layout.specs.Layouts.{fieldsOf, fieldOf};
-ghost use Rattle.layout.specs.Packed.{fieldTable};
 ghost use Rattle.seeking.specs.Card.{refusal};
 ghost use Rattle.judging.specs.Fields.{spellingOf, secondBy};
 ghost use Rattle.writing.specs.Writing.{entryOf, textEntryOf};
@@ -67,15 +66,15 @@ fn is_within(f: Field, v: Value) -> bool
 }
 
 // Whether the second set has a field that is not blank, other than the one with a number.
-fn other_second(table: &[u64], card: &[u8], layout: usize, number: usize) -> bool
-    requires { ⌜ (length (now card) ≡ 80) × (now table ≡ fieldTable) ⌝ }
+fn other_second(card: &[u8], layout: usize, number: usize) -> bool
+    requires { ⌜ length (now card) ≡ 80 ⌝ }
     ensures { λ r. ⌜ r ≡ otherSecond (now (card .entry)) number 1 (fieldsOf layout) ⌝ }
 {
-    let count = layout::fields_by(table, layout);
+    let count = layout::fields_in(layout);
     let mut n = 0;
     while n < count {
         n += 1;
-        if (n != number) & judging::second_by(table, card, layout, n) {
+        if (n != number) & judging::second_by(card, layout, n) {
             return true;
         }
     }
@@ -83,8 +82,8 @@ fn other_second(table: &[u64], card: &[u8], layout: usize, number: usize) -> boo
 }
 
 // Whether a field is needed on the card as it stands once the field is blank.
-fn needed_after(table: &[u64], card: &[u8], layout: usize, number: usize, f: Field) -> bool
-    requires { ⌜ (length (now card) ≡ 80) × (now table ≡ fieldTable) ⌝ }
+fn needed_after(card: &[u8], layout: usize, number: usize, f: Field) -> bool
+    requires { ⌜ length (now card) ≡ 80 ⌝ }
     ensures { λ r. ⌜ r ≡ neededAfter layout (now (card .entry)) number f ⌝ }
 {
     if !f.needed {
@@ -93,7 +92,7 @@ fn needed_after(table: &[u64], card: &[u8], layout: usize, number: usize, f: Fie
     if !f.second {
         return true;
     }
-    other_second(table, card, layout, number)
+    other_second(card, layout, number)
 }
 
 // Writes a value into its field's columns.
@@ -123,24 +122,15 @@ fn write_text(card: &mut [u8], f: Field, grid: bool, text: &[u8]) -> Entered
 }
 
 // Enters a value into a field that was found.
-fn enter(
-    table: &[u64],
-    card: &mut [u8],
-    layout: usize,
-    number: usize,
-    f: Field,
-    grid: bool,
-    v: Value,
-) -> Entered
+fn enter(card: &mut [u8], layout: usize, number: usize, f: Field, grid: bool, v: Value) -> Entered
     requires { ⌜ (length (now card) ≡ 80) × (1 ≤ f .first) × (f .first ≤ f .last) × (f .last ≤ 80) × T (ranged (f .kind) (f .range)) ⌝ }
-    requires { ⌜ now table ≡ fieldTable ⌝ }
     ensures answer { λ r. ⌜ r ≡ answerOf (valuePut layout (now (card .entry)) number f grid v) ⌝ }
     ensures card { λ _. ⌜ now (card .exit) ≡ leftBy (valuePut layout (now (card .entry)) number f grid v) (now (card .entry)) ⌝ }
 {
     if !is_within(f, v) {
         return refused(10, 0);
     }
-    if is_absent(v) & needed_after(table, card, layout, number, f) {
+    if is_absent(v) & needed_after(card, layout, number, f) {
         let first = f.first;
         return refused(11, first);
     }
@@ -152,11 +142,10 @@ pub fn put(card: &mut [u8], number: usize, form: usize, v: Value) -> Entered
     ensures answer { λ r. ⌜ r ≡ answerOf (puttingOf (now (card .entry)) number form v) ⌝ }
     ensures card { λ _. ⌜ now (card .exit) ≡ leftBy (puttingOf (now (card .entry)) number form v) (now (card .entry)) ⌝ }
 {
-    let table = layout::table();
-    let sought = seeking::seek(&table, card, number, form);
+    let sought = seeking::seek(card, number, form);
     match sought {
         Sought::Refused(r) => Entered::Refused(r),
-        Sought::Is(k, f) => enter(&table, card, k, number, f, form == 1, v),
+        Sought::Is(k, f) => enter(card, k, number, f, form == 1, v),
     }
 }
 
@@ -165,8 +154,7 @@ pub fn put_text(card: &mut [u8], number: usize, form: usize, text: &[u8]) -> Ent
     ensures answer { λ r. ⌜ r ≡ answerOf (puttingTextOf (now (card .entry)) number form (now (text .entry))) ⌝ }
     ensures card { λ _. ⌜ now (card .exit) ≡ leftBy (puttingTextOf (now (card .entry)) number form (now (text .entry))) (now (card .entry)) ⌝ }
 {
-    let table = layout::table();
-    let sought = seeking::seek(&table, card, number, form);
+    let sought = seeking::seek(card, number, form);
     match sought {
         Sought::Refused(r) => Entered::Refused(r),
         Sought::Is(_, f) => write_text(card, f, form == 1, text),

@@ -24,11 +24,11 @@ use Rattle.layout.proofs.Columns.{inOrder, front, rest}
 use Rattle.seeking.specs.declared.Refusal.{Refusal}
 use Rattle.judging.specs.declared.Judged.the-variants as judged
 use Rattle.seeking.specs.Card.{refusal}
-use Rattle.judging.specs.Fields.{columnsOf, spellingOf, neededOn, valueOf, heldOf, judgedOf}
+use Rattle.judging.specs.Fields.{columnsOf, spellingOf, neededOn, valueOf, heldOf, judgedOf, numberOf}
 use Rattle.field.specs.Reading.{answeredOf}
 use Rattle.card.specs.declared.Form.{Form}
 use Rattle.card.specs.declared.Form.the-variants as form
-use Rattle.card.specs.Judging.{isCoordinate, numberOf, fieldOffence, filledAt, gapOffence, columnOffence, labelStands, labelOffence, offenceAt}
+use Rattle.card.specs.Judging.{isCoordinate, fieldOffence, filledAt, gapOffence, columnOffence, labelStands, labelOffence, offenceAt}
 use Rattle.card.proofs.Walked.{in-order}
 use Rattle.exactly.specs.Rows.{row, given}
 use Rattle.exactly.specs.Words.{fieldsUnder, fieldsOn, labelOn, labelDiffers, isRead, covered, isGap}

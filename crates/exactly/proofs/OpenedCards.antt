@@ -23,13 +23,13 @@ use Rattle.layout.proofs.Every.{every, and-left, and-right}
 use Rattle.layout.proofs.Places.{has-fields}
 use Rattle.layout.proofs.Columns.{inOrder, front, rest, of-layout}
 use Rattle.judging.specs.declared.Judged.the-variants as judged
-use Rattle.judging.specs.Fields.{columnsOf, isBlank, spellingOf, anySecond, neededOn, valueOf, heldOf, judgedOf}
+use Rattle.judging.specs.Fields.{columnsOf, isBlank, spellingOf, anySecond, neededOn, valueOf, heldOf, judgedOf, numberOf}
 use Rattle.card.specs.declared.Form.{Form}
 use Rattle.card.specs.declared.Form.the-variants as form
 use Rattle.card.specs.declared.Verdict.{Verdict}
 use Rattle.card.specs.declared.Verdict.the-variants.{Fine, Offence}
 use Rattle.opening.specs.Opening.{labelled, newCard, cardWith, openedCard}
-use Rattle.card.specs.Judging.{isCoordinate, numberOf, fieldOffence, filledAt, gapOffence, columnOffence, labelOffence, offenceAt, verdictFrom, verdictAt, codeVerdict, verdictOf}
+use Rattle.card.specs.Judging.{isCoordinate, fieldOffence, filledAt, gapOffence, columnOffence, labelOffence, offenceAt, verdictFrom, verdictAt, codeVerdict, verdictOf}
 use Rattle.opening.proofs.Laying.{card-coded, read-length, passed-length as passed-code-length}
 use Rattle.card.proofs.NewCards.{new-length, new-code, new-rest, opened-length, opened-code, opened-label}
 use Rattle.card.proofs.Verdicts.{fine-everywhere}

@@ -36,11 +36,10 @@ fn answered(f: Field, j: Judged) -> FieldRead
 pub fn read_field(card: &[u8], number: usize, form: usize) -> FieldRead
     ensures { λ r. ⌜ r ≡ fieldReading (now (card .entry)) number form ⌝ }
 {
-    let table = layout::table();
-    let sought = seeking::seek(&table, card, number, form);
+    let sought = seeking::seek(card, number, form);
     match sought {
         Sought::Refused(r) => FieldRead::Refused(r),
-        Sought::Is(k, f) => answered(f, judging::judge(&table, card, k, f, form == 1)),
+        Sought::Is(k, f) => answered(f, judging::judge(card, k, f, form == 1)),
     }
 }
 
@@ -66,12 +65,11 @@ fn columns(card: &[u8], first: usize, last: usize) -> &[u8]
 pub fn read_text(card: &[u8], number: usize, form: usize) -> &[u8]
     ensures { λ r. ⌜ now r ≡ fieldText (now (card .entry)) number form ⌝ }
 {
-    let table = layout::table();
-    let sought = seeking::seek(&table, card, number, form);
+    let sought = seeking::seek(card, number, form);
     let Sought::Is(k, f) = sought else {
         return &card[..0];
     };
-    if !holds_text(judging::judge(&table, card, k, f, form == 1)) {
+    if !holds_text(judging::judge(card, k, f, form == 1)) {
         return &card[..0];
     }
     let first = f.first;

@@ -3,7 +3,6 @@ use card::Form;
 use codes::Code;
 ghost use mathlib.Core.Path.{_≡_};
 ghost use Prim.Native.Nat.{_+_, _<_};
-ghost use Rattle.codes.specs.Codes.{allCodes};
 ghost use Rattle.forms.specs.Cards.{numberOf, cardsIn, layoutOf};
 ghost use Rattle.forms.specs.Notes.{noteCount, mark, noted, told, noteAt, noteCard, notesTo, formBy};
 
@@ -47,22 +46,14 @@ pub fn number_of(code: Code) -> usize
     }
 }
 
-// The number of the layout that reads a card, with the patterns of the codes lent.
-fn layout_by(patterns: &[u8], card: &[u8]) -> usize
-    requires { ⌜ now patterns ≡ allCodes ⌝ }
+// The number of the layout that reads a card.
+pub fn layout_of(card: &[u8]) -> usize
     ensures { λ r. ⌜ r ≡ layoutOf (now (card .entry)) ⌝ }
 {
     if card.len() < CODE {
         return UNREAD;
     }
-    number_of(codes::code_by(patterns, &card[..CODE]))
-}
-
-pub fn layout_of(card: &[u8]) -> usize
-    ensures { λ r. ⌜ r ≡ layoutOf (now (card .entry)) ⌝ }
-{
-    let patterns = codes::patterns();
-    layout_by(&patterns, card)
+    number_of(codes::code_of(&card[..CODE]))
 }
 
 // The note of a form column's byte.
@@ -116,14 +107,13 @@ fn note(notes: &mut [u8; NOTES], place: usize, byte: u8)
 }
 
 // Notes the form that a card states, if it states one: H00@8 and H0100 have a 0 in column 2.
-fn note_card(notes: &mut [u8; NOTES], patterns: &[u8], card: &[u8])
-    requires { ⌜ now patterns ≡ allCodes ⌝ }
+fn note_card(notes: &mut [u8; NOTES], card: &[u8])
     ensures { λ _. ⌜ now (notes .exit) ≡ noteCard (now (notes .entry)) (now (card .entry)) ⌝ }
 {
     if lists::byte_at(card, 1) != b'0' {
         return;
     }
-    let layout = layout_by(patterns, card);
+    let layout = layout_of(card);
     if layout == LINE_CARD {
         note(
             notes,
@@ -141,13 +131,12 @@ fn note_card(notes: &mut [u8; NOTES], patterns: &[u8], card: &[u8])
 pub fn notes_of(header: &[u8]) -> [u8; NOTES]
     ensures { λ r. ⌜ r ≡ notesTo (now (header .entry)) (cardsIn (now (header .entry))) ⌝ }
 {
-    let patterns = codes::patterns();
     let mut notes = [NONE; NOTES];
     let count = header.len() / CARD;
     let mut card = 0;
     while card < count {
         let from = card * CARD;
-        note_card(&mut notes, &patterns, &header[from..from + CARD]);
+        note_card(&mut notes, &header[from..from + CARD]);
         card += 1;
     }
     notes

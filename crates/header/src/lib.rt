@@ -11,8 +11,7 @@ use forms::WAYPOINT_CARD;
 use seeking::Refusal;
 ghost use mathlib.Core.Path.{_≡_};
 ghost use lib.ListN.{length, take};
-ghost use Rattle.layout.specs.Packed.{fieldTable};
-ghost use Rattle.codes.specs.Codes.{codeOf, allCodes};
+ghost use Rattle.codes.specs.Codes.{codeOf};
 ghost use Rattle.seeking.specs.Card.{refusal};
 ghost use Rattle.forms.specs.Cards.{cardsIn};
 ghost use Rattle.forms.specs.Notes.{notesTo};
@@ -94,12 +93,12 @@ fn judge_misplaced(card: &[u8], code: Code) -> Verdict
 }
 
 // A card in its place or not.
-fn judge_placed(table: &[u64], card: &[u8], code: Code, form: Form, placed: bool) -> Verdict
-    requires { ⌜ (length (now card) ≡ 80) × (code ≡ codeOf (take 5 (now card))) × (now table ≡ fieldTable) ⌝ }
+fn judge_placed(card: &[u8], code: Code, form: Form, placed: bool) -> Verdict
+    requires { ⌜ (length (now card) ≡ 80) × (code ≡ codeOf (take 5 (now card))) ⌝ }
     ensures { λ r. ⌜ r ≡ placedVerdict (now (card .entry)) form placed ⌝ }
 {
     if placed {
-        return card::judge_by(table, card, code, form);
+        return card::judge_by(card, code, form);
     }
     judge_misplaced(card, code)
 }
@@ -128,10 +127,9 @@ fn answer_for(verdict: Verdict, card: usize) -> Checked
     }
 }
 
-// All cards, with the notes of the forms that they state, the layouts' table and the codes' patterns: the first offence
-// decides.
-fn check_cards(header: &[u8], notes: &[u8; NOTES], table: &[u64], patterns: &[u8]) -> Checked
-    requires { ⌜ (now notes ≡ notesTo (now header) (cardsIn (now header))) × (now table ≡ fieldTable) × (now patterns ≡ allCodes) ⌝ }
+// All cards, with the notes of the forms that they state: the first offence decides.
+fn check_cards(header: &[u8], notes: &[u8; NOTES]) -> Checked
+    requires { ⌜ now notes ≡ notesTo (now header) (cardsIn (now header)) ⌝ }
     ensures { λ r. ⌜ r ≡ cardsAnswer (now (header .entry)) ⌝ }
 {
     let count = header.len() / CARD;
@@ -140,11 +138,11 @@ fn check_cards(header: &[u8], notes: &[u8; NOTES], table: &[u64], patterns: &[u8
     while place < count {
         let from = place * CARD;
         let card = &header[from..from + CARD];
-        let code = codes::code_by(patterns, &card[..CODE]);
+        let code = codes::code_of(&card[..CODE]);
         let layout = forms::number_of(code);
         let form = forms::form_by(notes, layout, card);
         let placed = in_place(place, layout, before);
-        let verdict = judge_placed(table, card, code, form, placed);
+        let verdict = judge_placed(card, code, form, placed);
         let Verdict::Fine = verdict else {
             return answer_for(verdict, place + 1);
         };
@@ -168,7 +166,5 @@ pub fn check(header: &[u8]) -> Checked
         return refused(3);
     }
     let notes = forms::notes_of(header);
-    let table = layout::table();
-    let patterns = codes::patterns();
-    check_cards(header, &notes, &table, &patterns)
+    check_cards(header, &notes)
 }

@@ -1,7 +1,7 @@
 -- Laws of the layout table.
 pub mod Every
-pub mod Joined
 pub mod Places
+pub mod Lines
 pub mod Columns
 pub mod Numbers
 pub mod Sets

@@ -1,113 +1,97 @@
--- How the code holds the table: a field as one number, fields and labels one after the other. No promise to a caller cites this.
-use Prim.Native.Nat.{ℕ, zero, suc, _+_, _*_, _/_, _%_}
+-- How the code holds the table: a field as one number, whose hexadecimal digits are read as decimal ones.
+use Prim.Native.Nat.{ℕ, _+_, _-_, _*_, _/_, _%_}
 use mathlib.Core.Bool.{Bool, true, false, cond}
 use mathlib.Core.List.{List, [], _∷_, _++_, map}
 use lib.Dec.{eqb}
-use lib.ListN.{length, take}
+use lib.ListN.{length, getD, replicate}
 use Rattle.layout.specs.declared.Kind.{Kind}
 use Rattle.layout.specs.declared.Kind.the-variants.{Text, Comment, Whole, Decimal, Date, Latitude, Longitude}
 use Rattle.layout.specs.declared.Range.{Range}
 use Rattle.layout.specs.declared.Range.the-variants.{Any, AtLeast, Between, OneOf}
 use Rattle.layout.specs.declared.Field.{Field}
-use Rattle.layout.specs.Shape.{Layout}
-use Rattle.layout.specs.Table.{readTable, layouts}
+use Rattle.layout.specs.declared.Found.{Found}
+use Rattle.layout.specs.declared.Found.the-variants.{Is, Nothing}
+use Rattle.layout.specs.Table.{readTable}
+use Rattle.layout.specs.Layouts.{fieldsOf, labelOf}
 
--- a kind's number
+-- how many layouts there are
+abbrev pub layoutCount : ℕ
+layoutCount = length readTable
+
+-- a number of two decimal digits, and one of three, in as many hexadecimal ones; and back
+abbrev pub twoDigits : ℕ → ℕ
+twoDigits n = 16 * (n / 10) + n % 10
+
+abbrev pub threeDigits : ℕ → ℕ
+threeDigits n = 256 * (n / 100) + twoDigits (n % 100)
+
+unfoldable pub tens : ℕ → ℕ
+tens n = n / 16 * 10 + n % 16
+
+unfoldable pub hundreds : ℕ → ℕ
+hundreds n = n / 256 * 100 + tens (n % 256)
+
+-- a kind's digit
 abbrev pub kindNumber : Kind → ℕ
-kindNumber Text = 0
-kindNumber Comment = 1
-kindNumber Whole = 2
-kindNumber Decimal = 3
-kindNumber Date = 4
-kindNumber Latitude = 5
-kindNumber Longitude = 6
+kindNumber Text = 10
+kindNumber Comment = 12
+kindNumber Whole = 1
+kindNumber Decimal = 2
+kindNumber Date = 13
+kindNumber Latitude = 14
+kindNumber Longitude = 15
 
--- the kind with a number; 6 and more is a longitude
+-- the kind with a digit; any other is a longitude
 unfoldable pub kindOf : ℕ → Kind
 kindOf n =
-    cond (eqb n 0) Text
-    (cond (eqb n 1) Comment
-    (cond (eqb n 2) Whole (cond (eqb n 3) Decimal (cond (eqb n 4) Date (cond (eqb n 5) Latitude Longitude)))))
+    cond (eqb n 10) Text
+    (cond (eqb n 12) Comment
+    (cond (eqb n 1) Whole (cond (eqb n 2) Decimal (cond (eqb n 13) Date (cond (eqb n 14) Latitude Longitude)))))
 
--- a range's number: two bits for its form, then nine bits for each number
+-- a range's number: one digit for its form, then three digits for each number
 abbrev pub rangeNumber : Range → ℕ
 rangeNumber Any = 0
-rangeNumber (AtLeast a) = 1 + 4 * a
-rangeNumber (Between a b) = 2 + 4 * a + 2048 * b
-rangeNumber (OneOf a b c) = 3 + 4 * a + 2048 * b + 1048576 * c
+rangeNumber (AtLeast a) = 68719476736 + 16777216 * threeDigits a
+rangeNumber (Between a b) = 2 * 68719476736 + 16777216 * threeDigits a + 4096 * threeDigits b
+rangeNumber (OneOf a b c) = 3 * 68719476736 + 16777216 * threeDigits a + 4096 * threeDigits b + threeDigits c
 
 unfoldable pub rangeOf : ℕ → Range
 rangeOf n =
-    cond (eqb (n % 4) 0) Any
-    (cond (eqb (n % 4) 1) (AtLeast (n / 4 % 512))
-    (cond (eqb (n % 4) 2) (Between (n / 4 % 512) (n / 2048 % 512)) (OneOf (n / 4 % 512) (n / 2048 % 512) (n / 1048576 % 512))))
+    cond (eqb (n / 68719476736) 0) Any
+    (cond (eqb (n / 68719476736) 1) (AtLeast (hundreds (n / 16777216 % 4096)))
+    (cond (eqb (n / 68719476736) 2) (Between (hundreds (n / 16777216 % 4096)) (hundreds (n / 4096 % 4096)))
+    (OneOf (hundreds (n / 16777216 % 4096)) (hundreds (n / 4096 % 4096)) (hundreds (n % 4096)))))
 
 abbrev pub bit : Bool → ℕ
 bit true = 1
 bit false = 0
 
--- a field as one number
+-- a field as one number: its last and first column, its marks, its kind, its range
 abbrev pub pack : Field → ℕ
 pack f =
-    kindNumber (f .kind) + 8 * bit (f .needed) + 16 * bit (f .second) + 32 * f .first + 4096 * f .last +
-    524288 * rangeNumber (f .range)
+    twoDigits (f .last) + 256 * twoDigits (f .first) + 65536 * (bit (f .needed) + 2 * bit (f .second)) +
+    1048576 * kindNumber (f .kind) + 16777216 * rangeNumber (f .range)
 
 -- the field that a number holds
 unfoldable pub unpack : ℕ → Field
 unpack n =
     record {
-      kind = kindOf (n % 8);
-      first = n / 32 % 128;
-      last = n / 4096 % 128;
-      needed = eqb (n / 8 % 2) 1;
-      second = eqb (n / 16 % 2) 1;
-      range = rangeOf (n / 524288);
+      kind = kindOf (n / 1048576 % 16);
+      first = tens (n / 256 % 256);
+      last = tens (n % 256);
+      needed = eqb (n / 65536 % 2) 1;
+      second = eqb (n / 131072 % 2) 1;
+      range = rangeOf (n / 16777216);
     }
 
--- what the layouts of a list have, one after the other
-module _ {A : Type 0} (part : Layout → List A) where
-  abbrev pub joined : List Layout → List A
-  joined [] = []
-  joined (l ∷ ls) = part l ++ joined ls
+-- the field with a number, counted from 1, of a layout, as one number; 0 where there is none
+unfoldable pub rowOf : ℕ → ℕ → ℕ
+rowOf k n = getD (0 ∷ map pack (fieldsOf k)) n 0
 
-  -- how much of it stands before the layout with a number
-  abbrev pub startIn : List Layout → ℕ → ℕ
-  startIn ls k = length (joined (take k ls))
+-- the answer that such a number holds
+unfoldable pub foundIn : ℕ → Found
+foundIn r = cond (eqb r 0) Nothing (Is (unpack r))
 
-abbrev pub fieldsIn : Layout → List Field
-fieldsIn l = l .fields
-
-abbrev pub labelIn : Layout → List ℕ
-labelIn l = l .label
-
--- how many lines the table has: layouts, fields, bytes of labels
-abbrev pub layoutCount : ℕ
-layoutCount = length readTable
-
-abbrev pub fieldCount : ℕ
-fieldCount = length (joined fieldsIn readTable)
-
-abbrev pub labelCount : ℕ
-labelCount = length (joined labelIn readTable)
-
--- all fields and all label bytes, and where those of a layout begin
-unfoldable pub allFields : List Field
-allFields = joined fieldsIn layouts
-
-unfoldable pub allLabels : List ℕ
-allLabels = joined labelIn layouts
-
-unfoldable pub fieldStart : ℕ → ℕ
-fieldStart k = startIn fieldsIn layouts k
-
-unfoldable pub labelStart : ℕ → ℕ
-labelStart k = startIn labelIn layouts k
-
--- where the layouts begin, from one with a number on: fields, times 1024 label bytes, and times 1048576 the number
-abbrev pub startsFrom : ℕ → ℕ → List ℕ
-startsFrom zero k = []
-startsFrom (suc n) k = (fieldStart k + 1024 * labelStart k + 1048576 * k) ∷ startsFrom n (suc k)
-
--- the starts of the layouts and the end, and then every field as one number
-unfoldable pub fieldTable : List ℕ
-fieldTable = startsFrom (suc layoutCount) 0 ++ map pack allFields
+-- a label and the blanks behind it, in as many columns as the longest has
+unfoldable pub labelRow : ℕ → List ℕ
+labelRow k = labelOf k ++ replicate (23 - length (labelOf k)) 32

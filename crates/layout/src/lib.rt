@@ -1,23 +1,15 @@
 // The layout table: labels, fields with columns and ranges.
 ghost use mathlib.Core.Path.{_≡_};
-ghost use Prim.Native.Nat.{_≤_, _<_};
 ghost use lib.ListN.{length, getD};
-ghost use mathlib.Core.List.{[]};
 ghost use Rattle.layout.specs.Layouts.{fieldsOf, labelOf, fieldOf};
-ghost use Rattle.layout.specs.Packed.{layoutCount, kindOf, rangeOf, unpack, fieldTable, fieldStart, labelStart};
+ghost use Rattle.layout.specs.Packed.{tens, hundreds, kindOf, rangeOf, unpack};
 
 mod rows;
 
-use rows::FIRST;
 use rows::LABEL;
-use rows::LABELS;
-use rows::LAST;
 pub use rows::LAYOUTS;
-use rows::NEEDED;
-use rows::RANGE;
-use rows::SECOND;
-use rows::SIZE;
-use rows::TABLE;
+use rows::label_row;
+pub use rows::row_of;
 
 // How a field is spelled. A comment is a text that may begin with blanks.
 pub enum Kind {
@@ -54,56 +46,65 @@ pub enum Found {
     Nothing,
 }
 
-// The table that the functions below whose names end in `_by` are lent: a constant array is written out anew wherever
-// it is used, so one question, or the check of a whole header, holds it once.
-pub fn table() -> [u64; SIZE]
-    ensures { λ r. ⌜ r ≡ fieldTable ⌝ }
-{
-    TABLE
-}
-
-fn start_by(table: &[u64], layout: usize) -> usize
-    requires { ⌜ (now table ≡ fieldTable) × (layout ≤ layoutCount) ⌝ }
-    ensures { λ r. ⌜ r ≡ fieldStart layout ⌝ }
-{
-    (table[layout] % LABEL) as usize
-}
-
-fn label_start_by(table: &[u64], layout: usize) -> usize
-    requires { ⌜ (now table ≡ fieldTable) × (layout ≤ layoutCount) ⌝ }
-    ensures { λ r. ⌜ r ≡ labelStart layout ⌝ }
-{
-    (table[layout] / LABEL % 1024) as usize
-}
-
-// The number of fields of a layout, 0 past the last layout.
-pub fn fields_by(table: &[u64], layout: usize) -> usize
-    requires { ⌜ now table ≡ fieldTable ⌝ }
-    ensures { λ r. ⌜ r ≡ length (fieldsOf layout) ⌝ }
-{
-    if LAYOUTS <= layout {
-        return 0;
-    }
-    start_by(table, layout + 1) - start_by(table, layout)
-}
-
+// The number of fields of a layout, 0 past the last layout. A new field is one line in `row_of` and one more here.
 pub fn fields_in(layout: usize) -> usize
     ensures { λ r. ⌜ r ≡ length (fieldsOf layout) ⌝ }
 {
-    let table = table();
-    fields_by(&table, layout)
+    match layout {
+        0 => 3,
+        1 => 4,
+        2 => 1,
+        3 => 5,
+        4 => 1,
+        5 => 1,
+        6 => 1,
+        7 => 1,
+        8 => 9,
+        9 => 7,
+        10 => 1,
+        11 => 1,
+        12 => 4,
+        13 => 5,
+        14 => 5,
+        15 => 10,
+        16 => 14,
+        17 => 2,
+        18 => 9,
+        19 => 14,
+        20 => 1,
+        21 => 1,
+        22 => 9,
+        23 => 1,
+        24 => 18,
+        25 => 2,
+        _ => 0,
+    }
+}
+
+// The number whose two decimal digits are hexadecimal ones.
+fn tens(digits: u64) -> u64
+    ensures { λ r. ⌜ r ≡ tens digits ⌝ }
+{
+    digits / 16 * 10 + digits % 16
+}
+
+// The same of three digits.
+fn hundreds(digits: u64) -> u64
+    ensures { λ r. ⌜ r ≡ hundreds digits ⌝ }
+{
+    digits / 256 * 100 + tens(digits % 256)
 }
 
 fn kind_of(number: u64) -> Kind
     ensures { λ r. ⌜ r ≡ kindOf number ⌝ }
 {
     match number {
-        0 => Kind::Text,
-        1 => Kind::Comment,
-        2 => Kind::Whole,
-        3 => Kind::Decimal,
-        4 => Kind::Date,
-        5 => Kind::Latitude,
+        0xa => Kind::Text,
+        0xc => Kind::Comment,
+        1 => Kind::Whole,
+        2 => Kind::Decimal,
+        0xd => Kind::Date,
+        0xe => Kind::Latitude,
         _ => Kind::Longitude,
     }
 }
@@ -111,10 +112,13 @@ fn kind_of(number: u64) -> Kind
 fn range_of(number: u64) -> Range
     ensures { λ r. ⌜ r ≡ rangeOf number ⌝ }
 {
-    let low = number / 4 % 512;
-    let high = number / 2048 % 512;
-    let other = number / 1048576 % 512;
-    match number % 4 {
+    if number == 0 {
+        return Range::Any;
+    }
+    let low = hundreds(number / 0x1_000_000 % 0x1_000);
+    let high = hundreds(number / 0x1_000 % 0x1_000);
+    let other = hundreds(number % 0x1_000);
+    match number / 0x1_000_000_000 {
         0 => Range::Any,
         1 => Range::AtLeast(low),
         2 => Range::Between(low, high),
@@ -122,73 +126,55 @@ fn range_of(number: u64) -> Range
     }
 }
 
-fn unpacked(number: u64) -> Field
-    ensures { λ r. ⌜ r ≡ unpack number ⌝ }
+fn unpacked(row: u64) -> Field
+    ensures { λ r. ⌜ r ≡ unpack row ⌝ }
 {
     Field {
-        kind: kind_of(number % 8),
-        first: (number / FIRST % 128) as usize,
-        last: (number / LAST % 128) as usize,
-        needed: number / NEEDED % 2 == 1,
-        second: number / SECOND % 2 == 1,
-        range: range_of(number / RANGE),
+        kind: kind_of(row / 0x1_0_00_00 % 16),
+        first: tens(row / 0x1_00 % 256) as usize,
+        last: tens(row % 256) as usize,
+        needed: row / 0x1_00_00 % 2 == 1,
+        second: row / 0x2_00_00 % 2 == 1,
+        range: range_of(row / 0x1_0_0_00_00),
     }
 }
 
 // The field with a number, counted from 1, of a layout.
-pub fn field_by(table: &[u64], layout: usize, number: usize) -> Found
-    requires { ⌜ now table ≡ fieldTable ⌝ }
-    ensures { λ r. ⌜ r ≡ fieldOf layout number ⌝ }
-{
-    if number == 0 {
-        return Found::Nothing;
-    }
-    if fields_by(table, layout) < number {
-        return Found::Nothing;
-    }
-    let place = LAYOUTS + start_by(table, layout) + number;
-    Found::Is(unpacked(table[place]))
-}
-
 pub fn field_of(layout: usize, number: usize) -> Found
     ensures { λ r. ⌜ r ≡ fieldOf layout number ⌝ }
 {
-    let table = table();
-    field_by(&table, layout, number)
+    let row = row_of(layout, number);
+    if row == 0 {
+        return Found::Nothing;
+    }
+    Found::Is(unpacked(row))
 }
 
 // How many columns, from 6 on, a layout's label fills; 0 where it has none.
-pub fn label_by(table: &[u64], layout: usize) -> usize
-    requires { ⌜ now table ≡ fieldTable ⌝ }
-    ensures { λ r. ⌜ r ≡ length (labelOf layout) ⌝ }
-{
-    if LAYOUTS <= layout {
-        return 0;
-    }
-    label_start_by(table, layout + 1) - label_start_by(table, layout)
-}
-
 pub fn label_length(layout: usize) -> usize
     ensures { λ r. ⌜ r ≡ length (labelOf layout) ⌝ }
 {
-    let table = table();
-    label_by(&table, layout)
+    match layout {
+        0 => 10,
+        1 => 13,
+        2 => 20,
+        3 => 20,
+        4 => 7,
+        5 => 23,
+        6 => 23,
+        7 => 22,
+        8 => 23,
+        _ => 0,
+    }
 }
 
 // What a new card has in column 6 + place: the label's byte, and a blank past the label.
-pub fn label_byte_by(table: &[u64], layout: usize, place: usize) -> u8
-    requires { ⌜ now table ≡ fieldTable ⌝ }
-    ensures { λ r. ⌜ r ≡ getD (labelOf layout) place 32 ⌝ }
-{
-    if label_by(table, layout) <= place {
-        return 32;
-    }
-    LABELS[label_start_by(table, layout) + place]
-}
-
 pub fn label_byte(layout: usize, place: usize) -> u8
     ensures { λ r. ⌜ r ≡ getD (labelOf layout) place 32 ⌝ }
 {
-    let table = table();
-    label_byte_by(&table, layout, place)
+    if LABEL <= place {
+        return 32;
+    }
+    let label = label_row(layout);
+    label[place]
 }

@@ -47,10 +47,9 @@ fn lay_label(columns: &mut [u8], layout: usize)
     requires { ⌜ length (labelOf layout) ≤ length (now columns) ⌝ }
     ensures { λ _. ⌜ now (columns .exit) ≡ labelled (labelOf layout) (length (now (columns .entry))) ⌝ }
 {
-    let table = layout::table();
     let mut i = 0;
     while i < columns.len() {
-        columns[i] = layout::label_byte_by(&table, layout, i);
+        columns[i] = layout::label_byte(layout, i);
         i += 1;
     }
 }

@@ -5,7 +5,6 @@ use layout::Found;
 ghost use mathlib.Core.Path.{_≡_};
 ghost use lib.ListN.{length};
 ghost use Rattle.layout.specs.Layouts.{fieldOf};
-ghost use Rattle.layout.specs.Packed.{fieldTable};
 ghost use Rattle.seeking.specs.Card.{refusal, goodTo, firstBad, underForm, soughtOf};
 
 const CARD: usize = 80;
@@ -72,11 +71,10 @@ pub fn first_bad(s: &[u8]) -> usize
 }
 
 // The field with a number in a layout, under a form.
-fn under_form(table: &[u64], layout: usize, number: usize, form: usize) -> Sought
-    requires { ⌜ now table ≡ fieldTable ⌝ }
+fn under_form(layout: usize, number: usize, form: usize) -> Sought
     ensures { λ r. ⌜ r ≡ underForm layout form (fieldOf layout number) ⌝ }
 {
-    let found = layout::field_by(table, layout, number);
+    let found = layout::field_of(layout, number);
     match found {
         Found::Nothing => refused(13, 0, 0),
         Found::Is(f) => {
@@ -88,9 +86,8 @@ fn under_form(table: &[u64], layout: usize, number: usize, form: usize) -> Sough
     }
 }
 
-// The field with a number on a card, or the first refusal on the way to it. The caller lends the layouts' table.
-pub fn seek(table: &[u64], card: &[u8], number: usize, form: usize) -> Sought
-    requires { ⌜ now table ≡ fieldTable ⌝ }
+// The field with a number on a card, or the first refusal on the way to it.
+pub fn seek(card: &[u8], number: usize, form: usize) -> Sought
     ensures { λ r. ⌜ r ≡ soughtOf (now (card .entry)) number form ⌝ }
 {
     if card.len() == 0 {
@@ -107,6 +104,6 @@ pub fn seek(table: &[u64], card: &[u8], number: usize, form: usize) -> Sought
     match code {
         Code::Unknown => refused(5, 1, 1),
         Code::Passed => refused(13, 0, 0),
-        Code::Read(k) => under_form(table, k, number, form),
+        Code::Read(k) => under_form(k, number, form),
     }
 }

@@ -10,12 +10,12 @@ use Rattle.card.proofs.judge_by.Tie as tie
 first-bad-requires : tie.Need-first-bad-requires
 first-bad-requires c κs = search needs
 
-add-t8 : tie.Need-add-t8
-add-t8 c = search needs
+add-t7 : tie.Need-add-t7
+add-t7 c = search needs
 
 returns : tie.Need-returns
 returns c =
-    let s = c .before .before .before .before in
+    let s = c .before .before .before in
     sym (verdict-bad (now (s .args .card)) _ (s .pre .0) _ (c .before .first-bad .ensures) (c .if1 .taken))
 
 enum-told : tie.Need-enum-told
@@ -34,7 +34,7 @@ returns-2 : tie.Need-returns-2
 unfolding codeVerdict
 returns-2 c =
     let b = c .before .before in
-    let s = b .before .before .before .before in
+    let s = b .before .before .before in
     sym (verdict-coded (now (s .args .card)) (s .args .form) (s .pre .0) _ (b .before .first-bad .ensures) (b .if1 .left) _
     (sym (s .pre .1) ∙ c .enum-told .given .1))
 
@@ -42,7 +42,7 @@ returns-3 : tie.Need-returns-3
 unfolding codeVerdict
 returns-3 c =
     let b = c .before .before in
-    let s = b .before .before .before .before in
+    let s = b .before .before .before in
     sym (verdict-coded (now (s .args .card)) (s .args .form) (s .pre .0) _ (b .before .first-bad .ensures) (b .if1 .left) _
     (sym (s .pre .1) ∙ c .enum-told2 .given .1))
 
@@ -50,7 +50,7 @@ returns-4 : tie.Need-returns-4
 unfolding codeVerdict
 returns-4 c =
     let b = c .before .before .before .before in
-    let s = b .before .before .before .before in
+    let s = b .before .before .before in
     c .judge-read .ensures
     ∙ sym (verdict-coded (now (s .args .card)) (s .args .form) (s .pre .0) _ (b .before .first-bad .ensures) (b .if1 .left) _
     (sym (s .pre .1) ∙ c .before .before .code .given .1))
@@ -60,7 +60,7 @@ judge-by-spec =
     tie.close
     (tie.spec
     first-bad-requires
-    add-t8
+    add-t7
     returns
     enum-told
     enum-told-2

@@ -17,12 +17,6 @@ slice-aggregate-code-of c = sym (length-take-le 5 (now (c .before .before .befor
 code-of-requires : tie.Need-code-of-requires
 code-of-requires c κs = search needs
 
-table-requires : tie.Need-table-requires
-table-requires c κs = search needs
-
-slice-aggregate-judge-by : tie.Need-slice-aggregate-judge-by
-slice-aggregate-judge-by c = search needs
-
 judge-by-requires : tie.Need-judge-by-requires
 judge-by-requires c κs = search needs
 
@@ -36,7 +30,5 @@ judge-card-spec =
     returns
     slice-aggregate-code-of
     code-of-requires
-    table-requires
-    slice-aggregate-judge-by
     judge-by-requires
     returns-2)

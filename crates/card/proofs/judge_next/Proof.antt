@@ -10,16 +10,16 @@ first-filled-requires : tie.Need-first-filled-requires
 first-filled-requires c κs = search needs
 
 returns : tie.Need-returns
-returns c = sym (next-gap _ _ (now (c .before .before .before .before .args .card)) (c .before .before .before .before .args .f) _ _ (c .before .first-filled .ensures) (c .if1 .taken))
+returns c = sym (next-gap _ _ (now (c .before .before .before .args .card)) (c .before .before .before .args .f) _ _ (c .before .first-filled .ensures) (c .if1 .taken))
 
 field-offence-requires : tie.Need-field-offence-requires
 field-offence-requires c κs = search needs
 
 returns-2 : tie.Need-returns-2
-returns-2 c = sym (next-fine _ _ (now (c .before .before .before .before .before .before .args .card)) (c .before .before .before .before .before .before .args .f) _ _ (c .before .before .before .first-filled .ensures) (c .before .before .if1 .left) _ (c .before .field-offence .ensures) (c .if2 .taken))
+returns-2 c = sym (next-fine _ _ (now (c .before .before .before .before .before .args .card)) (c .before .before .before .before .before .args .f) _ _ (c .before .before .before .first-filled .ensures) (c .before .before .if1 .left) _ (c .before .field-offence .ensures) (c .if2 .taken))
 
 returns-3 : tie.Need-returns-3
-returns-3 c = sym (next-field-bad _ _ (now (c .before .before .before .before .before .before .args .card)) (c .before .before .before .before .before .before .args .f) _ _ (c .before .before .before .first-filled .ensures) (c .before .before .if1 .left) _ (c .before .field-offence .ensures) (c .if2 .left))
+returns-3 c = sym (next-field-bad _ _ (now (c .before .before .before .before .before .args .card)) (c .before .before .before .before .before .args .f) _ _ (c .before .before .before .first-filled .ensures) (c .before .before .if1 .left) _ (c .before .field-offence .ensures) (c .if2 .left))
 
 pub judge-next-spec : {M : Type 1} → statement M
 judge-next-spec =

@@ -27,7 +27,7 @@ refused-requires c κs = search needs
 
 -- src/lib.rt:131:9
 returns : tie.Need-returns
-returns c = stayed _ _ (put-outside _ (now (c .before .before .before .before .before .args .card)) _ (c .before .before .before .before .before .args .f) _ _ (c .before .before .before .before .before .pre .0 .4) (sym (c .before .before .is-within .ensures) ∙ not-true _ (c .before .if1 .taken))) (c .refused .ensures)
+returns c = stayed _ _ (put-outside _ (now (c .before .before .before .before .args .card)) _ (c .before .before .before .before .args .f) _ _ (c .before .before .before .before .pre .4) (sym (c .before .before .is-within .ensures) ∙ not-true _ (c .before .if1 .taken))) (c .refused .ensures)
 
 -- src/lib.rt:133:8
 is-absent-requires : tie.Need-is-absent-requires
@@ -47,7 +47,7 @@ same-length c = search needs
 
 -- src/lib.rt:135:9
 returns-2 : tie.Need-returns-2
-returns-2 c = stayed _ _ (put-missing _ (now (c .before .before .before .before .before .before .before .before .before .args .card)) _ (c .before .before .before .before .before .before .before .before .before .args .f) _ _ (ap₂ (λ x y. x && y) (sym (c .before .before .before .before .is-absent .ensures)) (sym (c .before .before .needed-after .ensures)) ∙ c .before .if2 .taken)) (c .refused2 .ensures)
+returns-2 c = stayed _ _ (put-missing _ (now (c .before .before .before .before .before .before .before .before .args .card)) _ (c .before .before .before .before .before .before .before .before .args .f) _ _ (ap₂ (λ x y. x && y) (sym (c .before .before .before .before .is-absent .ensures)) (sym (c .before .before .needed-after .ensures)) ∙ c .before .if2 .taken)) (c .refused2 .ensures)
 
 -- src/lib.rt:137:5
 write-value-requires : tie.Need-write-value-requires
@@ -59,7 +59,7 @@ same-length-2 c = search needs
 
 -- src/lib.rt:125:1
 returns-3 : tie.Need-returns-3
-returns-3 c = same-putting (now (c .before .before .before .before .before .before .before .before .before .before .before .before .args .card)) (c .before .before .write-value .last .0) _ (put-entered _ (now (c .before .before .before .before .before .before .before .before .before .before .before .before .args .card)) _ (c .before .before .before .before .before .before .before .before .before .before .before .before .args .f) _ _ (sym (c .before .before .before .before .before .before .before .before .before .is-within .ensures) ∙ not-false _ (c .before .before .before .before .before .before .before .before .if1 .left)) (ap₂ (λ x y. x && y) (sym (c .before .before .before .before .before .before .before .is-absent .ensures)) (sym (c .before .before .before .before .before .needed-after .ensures)) ∙ c .before .before .before .before .if2 .left)) (c .before .before .write-value .ensures .0) (c .before .before .write-value .ensures .1)
+returns-3 c = same-putting (now (c .before .before .before .before .before .before .before .before .before .before .before .args .card)) (c .before .before .write-value .last .0) _ (put-entered _ (now (c .before .before .before .before .before .before .before .before .before .before .before .args .card)) _ (c .before .before .before .before .before .before .before .before .before .before .before .args .f) _ _ (sym (c .before .before .before .before .before .before .before .before .before .is-within .ensures) ∙ not-false _ (c .before .before .before .before .before .before .before .before .if1 .left)) (ap₂ (λ x y. x && y) (sym (c .before .before .before .before .before .before .before .is-absent .ensures)) (sym (c .before .before .before .before .before .needed-after .ensures)) ∙ c .before .before .before .before .if2 .left)) (c .before .before .write-value .ensures .0) (c .before .before .write-value .ensures .1)
 
 pub enter-spec : {M : Type 1} → statement M
 enter-spec =

@@ -11,12 +11,6 @@ use Rattle.entry.proofs.enter.Reads as enter-reads
 use Rattle.seeking.proofs.seek.Reads as seek-reads
 
 -- src/lib.rt:145:9
-table-requires : tie.Need-table-requires
-table-requires c κs = search needs
-
-slice-aggregate-seek : tie.Need-slice-aggregate-seek
-slice-aggregate-seek c = search needs
-
 seek-requires : tie.Need-seek-requires
 seek-requires c κs = search needs
 
@@ -29,11 +23,8 @@ enum-known-sought-2 : tie.Need-enum-known-sought-2
 enum-known-sought-2 c = search needs
 
 -- src/lib.rt:148:29
-slice-aggregate-enter : tie.Need-slice-aggregate-enter
-slice-aggregate-enter c = search needs
-
 enter-requires : tie.Need-enter-requires
-enter-requires c κs = (field-fits (now (c .before .before .before .before .before .before .before .before .before .before .args .card)) _ _ _ (c .before .before .before .sought2 .given .0 .1 .0) (sym (c .before .before .before .before .before .seek .ensures) ∙ c .before .before .before .sought2 .given .1), c .before .before .before .before .before .before .before .before .table .ensures)
+enter-requires c κs = field-fits (now (c .before .before .before .before .before .before .before .args .card)) _ _ _ (c .before .before .sought2 .given .0 .1 .0) (sym (c .before .before .before .before .seek .ensures) ∙ c .before .before .sought2 .given .1)
 
 -- src/lib.rt:141:1
 same-length : tie.Need-same-length
@@ -41,7 +32,7 @@ same-length c = search needs
 
 -- src/lib.rt:141:1
 returns : tie.Need-returns
-returns c = stayed _ _ (value-stays (now (c .before .before .before .before .before .before .before .before .args .card)) _ _ _ (sym (c .before .before .before .seek .ensures) ∙ c .before .sought .given .1) _) refl
+returns c = stayed _ _ (value-stays (now (c .before .before .before .before .before .before .args .card)) _ _ _ (sym (c .before .before .before .seek .ensures) ∙ c .before .sought .given .1) _) refl
 
 -- src/lib.rt:141:1
 same-length-2 : tie.Need-same-length-2
@@ -49,18 +40,15 @@ same-length-2 c = search needs
 
 -- src/lib.rt:141:1
 returns-2 : tie.Need-returns-2
-returns-2 c = same-putting (now (c .before .before .before .before .before .before .before .before .before .before .before .before .before .args .card)) (c .before .before .enter .last .1 .0) _ (value-is (now (c .before .before .before .before .before .before .before .before .before .before .before .before .before .args .card)) _ _ _ (c .before .before .before .before .before .before .sought2 .given .0 .1 .0) (sym (c .before .before .before .before .before .before .before .before .seek .ensures) ∙ c .before .before .before .before .before .before .sought2 .given .1) _ refl _) (c .before .before .enter .ensures .0) (c .before .before .enter .ensures .1)
+returns-2 c = same-putting (now (c .before .before .before .before .before .before .before .before .before .before .args .card)) (c .before .before .enter .last .0) _ (value-is (now (c .before .before .before .before .before .before .before .before .before .before .args .card)) _ _ _ (c .before .before .before .before .before .sought2 .given .0 .1 .0) (sym (c .before .before .before .before .before .before .before .seek .ensures) ∙ c .before .before .before .before .before .sought2 .given .1) _ refl _) (c .before .before .enter .ensures .0) (c .before .before .enter .ensures .1)
 
 pub put-spec : {M : Type 1} → statement M
 put-spec =
     tie.close
     (tie.spec
-    table-requires
-    slice-aggregate-seek
     seek-requires
     enum-known-sought
     enum-known-sought-2
-    slice-aggregate-enter
     enter-requires
     same-length
     returns

@@ -15,12 +15,6 @@ use Rattle.judging.proofs.judge.Reads as judge-reads
 use Rattle.seeking.proofs.seek.Reads as seek-reads
 
 -- src/lib.rt:281:9
-table-requires : tie.Need-table-requires
-table-requires c κs = search needs
-
-slice-aggregate-seek : tie.Need-slice-aggregate-seek
-slice-aggregate-seek c = search needs
-
 seek-requires : tie.Need-seek-requires
 seek-requires c κs = search needs
 
@@ -33,14 +27,11 @@ enum-known-sought-2 : tie.Need-enum-known-sought-2
 enum-known-sought-2 c = search needs
 
 -- src/lib.rt:284:41
-slice-aggregate-judge : tie.Need-slice-aggregate-judge
-slice-aggregate-judge c = search needs
-
 judge-requires : tie.Need-judge-requires
 judge-requires c κs =
-    let h = found-there (now (c .before .before .before .before .before .before .before .before .args .card)) _ _ _ (c .before .before .sought2 .given .0 .1 .0) (sym (c .before .before .before .before .seek .ensures) ∙ c .before .before .sought2 .given .1) in
-    let l = found-lies _ _ (c .before .before .sought2 .given .0 .1 .0) (h .field) in
-    (h .whole, omega (arith, l .after), l .forward, l .on-card, c .before .before .before .before .before .before .table .ensures)
+    let h = found-there (now (c .before .before .before .before .before .args .card)) _ _ _ (c .before .sought2 .given .0 .1 .0) (sym (c .before .before .before .seek .ensures) ∙ c .before .sought2 .given .1) in
+    let l = found-lies _ _ (c .before .sought2 .given .0 .1 .0) (h .field) in
+    (h .whole, omega (arith, l .after), l .forward, l .on-card)
 
 -- src/lib.rt:284:29
 answered-requires : tie.Need-answered-requires
@@ -55,18 +46,15 @@ returns c = sym (ap (fieldOn _ _) (sym (c .before .before .before .seek .ensures
 returns-2 : tie.Need-returns-2
 returns-2 c =
     c .answered .ensures
-    ∙ reading-is (now (c .before .before .before .before .before .before .before .before .before .before .args .card)) _ _ _ (c .before .before .before .before .sought2 .given .0 .1 .0) (sym (c .before .before .before .before .before .before .seek .ensures) ∙ c .before .before .before .before .sought2 .given .1) _ (c .before .judge .ensures)
+    ∙ reading-is (now (c .before .before .before .before .before .before .before .args .card)) _ _ _ (c .before .before .before .sought2 .given .0 .1 .0) (sym (c .before .before .before .before .before .seek .ensures) ∙ c .before .before .before .sought2 .given .1) _ (c .before .judge .ensures)
 
 pub read-field-spec : {M : Type 1} → statement M
 read-field-spec =
     tie.close
     (tie.spec
-    table-requires
-    slice-aggregate-seek
     seek-requires
     enum-known-sought
     enum-known-sought-2
-    slice-aggregate-judge
     judge-requires
     answered-requires
     returns

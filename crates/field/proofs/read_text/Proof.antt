@@ -17,12 +17,6 @@ use Rattle.seeking.proofs.seek.Reads as seek-reads
 use Rattle.text.proofs.stretch.Reads as stretch-reads
 
 -- src/lib.rt:303:9
-table-requires : tie.Need-table-requires
-table-requires c κs = search needs
-
-slice-aggregate-seek : tie.Need-slice-aggregate-seek
-slice-aggregate-seek c = search needs
-
 seek-requires : tie.Need-seek-requires
 seek-requires c κs = search needs
 
@@ -40,16 +34,13 @@ slice-aggregate-result c = search needs
 
 -- src/lib.rt:305:9
 returns : tie.Need-returns
-returns c = sym (text-refused (now (c .before .before .before .before .before .before .before .args .card)) _ _ _ (sym (c .before .before .before .seek .ensures)) (c .before .before .match .keys2))
+returns c = sym (text-refused (now (c .before .before .before .before .before .args .card)) _ _ _ (sym (c .before .before .before .seek .ensures)) (c .before .before .match .keys2))
 
 -- src/lib.rt:307:20
-slice-aggregate-judge : tie.Need-slice-aggregate-judge
-slice-aggregate-judge c = search needs
-
 judge-requires : tie.Need-judge-requires
-judge-requires c κs = let h = found-there (now (c .before .before .before .before .before .before .before .before .args .card)) _ _ _ (c .before .before .sought .given .0 .1 .0) (sym (c .before .before .before .before .seek .ensures) ∙ c .before .before .sought .given .1) in
-    let l = found-lies _ _ (c .before .before .sought .given .0 .1 .0) (h .field) in
-    (h .whole, omega (arith, l .after), l .forward, l .on-card, c .before .before .before .before .before .before .table .ensures)
+judge-requires c κs = let h = found-there (now (c .before .before .before .before .before .args .card)) _ _ _ (c .before .sought .given .0 .1 .0) (sym (c .before .before .before .seek .ensures) ∙ c .before .sought .given .1) in
+    let l = found-lies _ _ (c .before .sought .given .0 .1 .0) (h .field) in
+    (h .whole, omega (arith, l .after), l .forward, l .on-card)
 
 -- src/lib.rt:307:9
 holds-text-requires : tie.Need-holds-text-requires
@@ -61,12 +52,12 @@ slice-aggregate-result-2 c = search needs
 
 -- src/lib.rt:308:9
 returns-2 : tie.Need-returns-2
-returns-2 c = sym (text-none (now (c .before .before .before .before .before .before .before .before .before .before .before .before .args .card)) _ _ _ (c .before .before .before .before .before .before .sought .given .0 .1 .0) (sym (c .before .before .before .before .before .before .before .before .seek .ensures) ∙ c .before .before .before .before .before .before .sought .given .1) _ (c .before .before .before .judge .ensures) (sym (c .before .before .holds-text .ensures) ∙ not-true _ (c .before .if1 .taken)))
+returns-2 c = sym (text-none (now (c .before .before .before .before .before .before .before .before .before .args .card)) _ _ _ (c .before .before .before .before .before .sought .given .0 .1 .0) (sym (c .before .before .before .before .before .before .before .seek .ensures) ∙ c .before .before .before .before .before .sought .given .1) _ (c .before .before .before .judge .ensures) (sym (c .before .before .holds-text .ensures) ∙ not-true _ (c .before .if1 .taken)))
 
 -- src/lib.rt:312:19
 columns-requires : tie.Need-columns-requires
-columns-requires c κs = let h = found-there (now (c .before .before .before .before .before .before .before .before .before .before .before .args .card)) _ _ _ (c .before .before .before .before .before .sought .given .0 .1 .0) (sym (c .before .before .before .before .before .before .before .seek .ensures) ∙ c .before .before .before .before .before .sought .given .1) in
-    let l = found-lies _ _ (c .before .before .before .before .before .sought .given .0 .1 .0) (h .field) in
+columns-requires c κs = let h = found-there (now (c .before .before .before .before .before .before .before .before .args .card)) _ _ _ (c .before .before .before .before .sought .given .0 .1 .0) (sym (c .before .before .before .before .before .before .seek .ensures) ∙ c .before .before .before .before .sought .given .1) in
+    let l = found-lies _ _ (c .before .before .before .before .sought .given .0 .1 .0) (h .field) in
     (omega (arith, l .after), l .forward, omega (arith, h .whole, l .on-card))
 
 -- src/lib.rt:312:5
@@ -75,20 +66,17 @@ stretch-requires c κs = search needs
 
 -- src/lib.rt:300:1
 returns-3 : tie.Need-returns-3
-returns-3 c = c .stretch .ensures ∙ text-is (now (c .before .before .before .before .before .before .before .before .before .before .before .before .before .args .card)) _ _ _ (c .before .before .before .before .before .before .before .sought .given .0 .1 .0) (sym (c .before .before .before .before .before .before .before .before .before .seek .ensures) ∙ c .before .before .before .before .before .before .before .sought .given .1) _ (c .before .before .before .before .judge .ensures) (sym (c .before .before .before .holds-text .ensures) ∙ not-false _ (c .before .before .if1 .left)) (now (c .before .columns .result)) (c .before .columns .ensures)
+returns-3 c = c .stretch .ensures ∙ text-is (now (c .before .before .before .before .before .before .before .before .before .before .args .card)) _ _ _ (c .before .before .before .before .before .before .sought .given .0 .1 .0) (sym (c .before .before .before .before .before .before .before .before .seek .ensures) ∙ c .before .before .before .before .before .before .sought .given .1) _ (c .before .before .before .before .judge .ensures) (sym (c .before .before .before .holds-text .ensures) ∙ not-false _ (c .before .before .if1 .left)) (now (c .before .columns .result)) (c .before .columns .ensures)
 
 pub read-text-spec : {M : Type 1} → statement M
 read-text-spec =
     tie.close
     (tie.spec
-    table-requires
-    slice-aggregate-seek
     seek-requires
     enum-known-sought
     enum-told
     slice-aggregate-result
     returns
-    slice-aggregate-judge
     judge-requires
     holds-text-requires
     slice-aggregate-result-2

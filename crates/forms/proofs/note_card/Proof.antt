@@ -11,11 +11,11 @@ byte-at-requires c κs = search needs
 
 returns : tie.Need-returns
 returns c =
-    let start = c .before .before .before .before in
+    let start = c .before .before .before in
     seen-none (now (start .args .notes)) (now (start .args .card)) _ (c .before .byte-at .ensures) (c .if1 .taken)
 
-layout-by-requires : tie.Need-layout-by-requires
-layout-by-requires c κs = search needs
+layout-of-requires : tie.Need-layout-of-requires
+layout-of-requires c κs = search needs
 
 byte-at-requires-2 : tie.Need-byte-at-requires-2
 byte-at-requires-2 c κs = search needs
@@ -36,7 +36,7 @@ returns-2 c =
     let c5 = c3 .before .before in
     let c6 = c5 .before in
     let c8 = c6 .before .before in
-    seen-line (now (c8 .before .before .before .args .notes)) (now (c8 .before .before .before .args .card)) _ (c6 .layout-by .ensures) (c5 .if2 .taken) _ _ _
+    seen-line (now (c8 .before .before .args .notes)) (now (c8 .before .before .args .card)) _ (c6 .layout-of .ensures) (c5 .if2 .taken) _ _ _
     (c3 .byte-at2 .ensures) (c2 .place-of .ensures .0) (c .before .byte-at3 .ensures) _ (c .note .ensures)
 
 byte-at-requires-4 : tie.Need-byte-at-requires-4
@@ -51,14 +51,14 @@ returns-3 c =
     let c4 = c3 .before in
     let c5 = c4 .before in
     let c7 = c5 .before .before in
-    seen-grid (now (c7 .before .before .before .args .notes)) (now (c7 .before .before .before .args .card)) _ (c5 .layout-by .ensures) (c4 .if2 .left) (c3 .if3 .taken) _
+    seen-grid (now (c7 .before .before .args .notes)) (now (c7 .before .before .args .card)) _ (c5 .layout-of .ensures) (c4 .if2 .left) (c3 .if3 .taken) _
     (c .before .byte-at4 .ensures) _ (c .note2 .ensures)
 
 returns-4 : tie.Need-returns-4
 returns-4 c =
     let c2 = c .before .before in
     let c4 = c2 .before .before in
-    seen-other (now (c4 .before .before .before .args .notes)) (now (c4 .before .before .before .args .card)) _ (c2 .layout-by .ensures) (c .before .if2 .left) (c .if3 .left)
+    seen-other (now (c4 .before .before .args .notes)) (now (c4 .before .before .args .card)) _ (c2 .layout-of .ensures) (c .before .if2 .left) (c .if3 .left)
 
 pub note-card-spec : {M : Type 1} → statement M
 note-card-spec =
@@ -66,7 +66,7 @@ note-card-spec =
     (tie.spec
     byte-at-requires
     returns
-    layout-by-requires
+    layout-of-requires
     byte-at-requires-2
     place-of-requires
     byte-at-requires-3

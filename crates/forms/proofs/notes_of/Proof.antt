@@ -12,13 +12,10 @@ use Rattle.forms.proofs.notes_of.Statement.{statement}
 use Rattle.forms.proofs.notes_of.Tie as tie
 
 abbrev Inv-loop : tie.InvT-loop
-Inv-loop header patterns notes₀ count card₀ notes card = (card ≤ length header / 80) × (notes ≡ notesTo header card)
+Inv-loop header notes₀ count card₀ notes card = (card ≤ length header / 80) × (notes ≡ notesTo header card)
 
 abbrev μ-loop : tie.MeasureT-loop
-μ-loop header patterns notes₀ count card₀ notes card = length header / 80 - card
-
-patterns-requires : tie.Need-patterns-requires Inv-loop μ-loop
-patterns-requires c κs = search needs
+μ-loop header notes₀ count card₀ notes card = length header / 80 - card
 
 loop-holds : tie.Need-loop-holds Inv-loop μ-loop
 unfolding notesTo
@@ -27,34 +24,31 @@ loop-holds c = (omega arith, refl)
 mul-from : tie.Need-mul-from Inv-loop μ-loop
 mul-from c =
     let c3 = c .before .before .before in
-    omega (arith, card-ends (now (c3 .before .args .header)) (c .before .loop .card) (c .loop-test .taken))
-
-slice-aggregate-note-card : tie.Need-slice-aggregate-note-card Inv-loop μ-loop
-slice-aggregate-note-card c = search needs
+    omega (arith, card-ends (now (c3 .args .header)) (c .before .loop .card) (c .loop-test .taken))
 
 add-note-card : tie.Need-add-note-card Inv-loop μ-loop
 add-note-card c =
-    let loop = c .before .before in
-    let start = loop .before .before .before .before in
-    omega (arith, card-ends (now (start .args .header)) (loop .before .loop .card) (loop .loop-test .taken))
+    let c2 = c .before .before in
+    let c4 = c2 .before .before in
+    omega (arith, card-ends (now (c4 .args .header)) (c2 .loop .card) (c .before .loop-test .taken))
 
 sub-note-card : tie.Need-sub-note-card Inv-loop μ-loop
 sub-note-card c =
-    let loop = c .before .before in
-    let start = loop .before .before .before .before in
-    omega (arith, card-ends (now (start .args .header)) (loop .before .loop .card) (loop .loop-test .taken))
+    let c2 = c .before .before in
+    let c4 = c2 .before .before in
+    omega (arith, card-ends (now (c4 .args .header)) (c2 .loop .card) (c .before .loop-test .taken))
 
 part-note-card-start : tie.Need-part-note-card-start Inv-loop μ-loop
 part-note-card-start c =
-    let loop = c .before .before in
-    let start = loop .before .before .before .before in
-    omega (arith, card-ends (now (start .args .header)) (loop .before .loop .card) (loop .loop-test .taken))
+    let c2 = c .before .before in
+    let c4 = c2 .before .before in
+    omega (arith, card-ends (now (c4 .args .header)) (c2 .loop .card) (c .before .loop-test .taken))
 
 part-note-card-end : tie.Need-part-note-card-end Inv-loop μ-loop
 part-note-card-end c =
-    let loop = c .before .before in
-    let start = loop .before .before .before .before in
-    omega (arith, card-ends (now (start .args .header)) (loop .before .loop .card) (loop .loop-test .taken))
+    let c2 = c .before .before in
+    let c4 = c2 .before .before in
+    omega (arith, card-ends (now (c4 .args .header)) (c2 .loop .card) (c .before .loop-test .taken))
 
 note-card-requires : tie.Need-note-card-requires Inv-loop μ-loop
 note-card-requires c κs = search needs
@@ -67,14 +61,14 @@ loop-less c = search needs
 
 loop-again : tie.Need-loop-again Inv-loop μ-loop
 loop-again c =
-    let h = now (c .before .before .before .before .before .before .before .before .args .header) in
-    let b = c .before .before .before .before .before .loop in
+    let h = now (c .before .before .before .before .before .before .args .header) in
+    let b = c .before .before .before .before .loop in
     (omega arith, one-more h (b .notes) _ (b .card) (b .inv .1) (card-part h (b .card)) _ (c .note-card .ensures))
 
 returns : tie.Need-returns Inv-loop μ-loop
 unfolding cardsIn
 returns c =
-    let h = now (c .before .before .before .before .args .header) in let b = c .before .loop in
+    let h = now (c .before .before .before .args .header) in let b = c .before .loop in
     let e : b .card ≡ length h / 80 = omega arith in
     b .inv .1 ∙ ap (notesTo h) e
 
@@ -84,10 +78,8 @@ notes-of-spec =
     (tie.spec
     Inv-loop
     μ-loop
-    patterns-requires
     loop-holds
     mul-from
-    slice-aggregate-note-card
     add-note-card
     sub-note-card
     part-note-card-start

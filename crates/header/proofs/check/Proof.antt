@@ -37,25 +37,13 @@ returns-3 c =
 notes-of-requires : tie.Need-notes-of-requires
 notes-of-requires c κs = search needs
 
-table-requires : tie.Need-table-requires
-table-requires c κs = search needs
-
-patterns-requires : tie.Need-patterns-requires
-patterns-requires c κs = search needs
-
-slice-aggregate-check-cards : tie.Need-slice-aggregate-check-cards
-slice-aggregate-check-cards c = search needs
-
-slice-aggregate-check-cards-2 : tie.Need-slice-aggregate-check-cards-2
-slice-aggregate-check-cards-2 c = search needs
-
 check-cards-requires : tie.Need-check-cards-requires
 check-cards-requires c κs = search needs
 
 returns-4 : tie.Need-returns-4
 unfolding cardsIn
 returns-4 c =
-    let c4 = c .before .before .before .before .before .before .before .before in
+    let c4 = c .before .before .before .before in
     let c5 = c4 .before in
     let c7 = c5 .before .before in
     c .check-cards .ensures ∙ sym (by-cards (now (c7 .args .header)) (c5 .if1 .left) (c4 .if2 .left) (omega arith))
@@ -71,9 +59,5 @@ check-spec =
     refused-requires-3
     returns-3
     notes-of-requires
-    table-requires
-    patterns-requires
-    slice-aggregate-check-cards
-    slice-aggregate-check-cards-2
     check-cards-requires
     returns-4)

@@ -10,14 +10,14 @@ judge-by-requires c κs = search needs
 
 returns : tie.Need-returns
 returns c =
-    let c4 = c .before .before .before .before in
-    placed-fine (now (c4 .args .card)) _ _ _ (c4 .pre .0) (c .before .if1 .taken) (c .judge-by .ensures)
+    let c3 = c .before .before .before in
+    placed-fine (now (c3 .args .card)) _ _ _ (c3 .pre .0) (c .before .if1 .taken) (c .judge-by .ensures)
 
 judge-misplaced-requires : tie.Need-judge-misplaced-requires
 judge-misplaced-requires c κs = search needs
 
 returns-2 : tie.Need-returns-2
-returns-2 c = misplaced (now (c .before .before .before .before .args .card)) _ _ _ (c .before .if1 .left) (c .judge-misplaced .ensures)
+returns-2 c = misplaced (now (c .before .before .before .args .card)) _ _ _ (c .before .if1 .left) (c .judge-misplaced .ensures)
 
 pub judge-placed-spec : {M : Type 1} → statement M
 judge-placed-spec =

@@ -12,17 +12,17 @@ use Rattle.judging.proofs.any_second.Tie as tie
 use Rattle.judging.proofs.any_second.Reads as reads
 use Rattle.judging.proofs.any_second.Lts as lts
 use Rattle.judging.proofs.second_by.Reads as second-by-reads
-use Rattle.layout.proofs.fields_by.Reads as fields-by-reads
+use Rattle.layout.proofs.fields_in.Reads as fields-in-reads
 
 abbrev Inv-loop : tie.InvT-loop
-Inv-loop table card layout count n₀ n = (n ≤ length (fieldsOf layout)) × (anySecond card (fieldsOf layout) ≡ anySecond card (drop n (fieldsOf layout)))
+Inv-loop card layout count n₀ n = (n ≤ length (fieldsOf layout)) × (anySecond card (fieldsOf layout) ≡ anySecond card (drop n (fieldsOf layout)))
 
 abbrev μ-loop : tie.MeasureT-loop
-μ-loop table card layout count n₀ n = count - n
+μ-loop card layout count n₀ n = count - n
 
 -- src/lib.rt:182:9
-fields-by-requires : tie.Need-fields-by-requires Inv-loop μ-loop
-fields-by-requires c κs = search needs
+fields-in-requires : tie.Need-fields-in-requires Inv-loop μ-loop
+fields-in-requires c κs = search needs
 
 -- src/lib.rt:184:5
 loop-holds : tie.Need-loop-holds Inv-loop μ-loop
@@ -38,7 +38,7 @@ second-by-requires c κs = search needs
 
 -- src/lib.rt:187:13
 returns : tie.Need-returns Inv-loop μ-loop
-returns c = let b = c .before .before .before .loop in let a = c .before .before .before .before .before .before .before .args in sym (b .inv .1 ∙ second-found (now (a .card)) (a .layout) (b .n) (omega (arith, c .before .before .before .before .fields-by .ensures)) (sym (c .before .second-by .ensures) ∙ c .if1 .taken))
+returns c = let b = c .before .before .before .loop in let a = c .before .before .before .before .before .before .args in sym (b .inv .1 ∙ second-found (now (a .card)) (a .layout) (b .n) (omega (arith, c .before .before .before .before .fields-in .ensures)) (sym (c .before .second-by .ensures) ∙ c .if1 .taken))
 
 -- src/lib.rt:184:5
 loop-less : tie.Need-loop-less Inv-loop μ-loop
@@ -46,11 +46,11 @@ loop-less c = search needs
 
 -- src/lib.rt:184:5
 loop-again : tie.Need-loop-again Inv-loop μ-loop
-loop-again c = let b = c .before .before .before .loop in let a = c .before .before .before .before .before .before .before .args in (omega (arith, c .before .before .before .before .fields-by .ensures), b .inv .1 ∙ second-goes (now (a .card)) (a .layout) (b .n) (omega (arith, c .before .before .before .before .fields-by .ensures)) (sym (c .before .second-by .ensures) ∙ c .if1 .left))
+loop-again c = let b = c .before .before .before .loop in let a = c .before .before .before .before .before .before .args in (omega (arith, c .before .before .before .before .fields-in .ensures), b .inv .1 ∙ second-goes (now (a .card)) (a .layout) (b .n) (omega (arith, c .before .before .before .before .fields-in .ensures)) (sym (c .before .second-by .ensures) ∙ c .if1 .left))
 
 -- src/lib.rt:178:1
 returns-2 : tie.Need-returns-2 Inv-loop μ-loop
-returns-2 c = let b = c .before .loop in let a = c .before .before .before .before .before .args in sym (b .inv .1 ∙ second-over (now (a .card)) (a .layout) (b .n) (omega (arith, c .before .before .fields-by .ensures)))
+returns-2 c = let b = c .before .loop in let a = c .before .before .before .before .args in sym (b .inv .1 ∙ second-over (now (a .card)) (a .layout) (b .n) (omega (arith, c .before .before .fields-in .ensures)))
 
 pub any-second-spec : {M : Type 1} → statement M
 any-second-spec =
@@ -58,7 +58,7 @@ any-second-spec =
     (tie.spec
     Inv-loop
     μ-loop
-    fields-by-requires
+    fields-in-requires
     loop-holds
     add-n
     second-by-requires

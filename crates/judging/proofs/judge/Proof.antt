@@ -38,13 +38,13 @@ needed-on-requires c κs = search needs
 held-of-requires : tie.Need-held-of-requires
 held-of-requires c κs =
     let t = now (c .before .before .before .columns .result) in
-    omega (arith, c .before .before .before .before .before .before .pre, columns-few (now (c .before .before .before .before .before .before .args .card)) t _ _ (c .before .before .before .before .before .before .pre .3) (c .before .before .before .columns .ensures), read-last t (c .before .before .spelling-of .result), ap readLast (c .before .read .ensures))
+    omega (arith, c .before .before .before .before .before .pre, columns-few (now (c .before .before .before .before .before .args .card)) t _ _ (c .before .before .before .before .before .pre .3) (c .before .before .before .columns .ensures), read-last t (c .before .before .spelling-of .result), ap readLast (c .before .read .ensures))
 
 -- src/lib.rt:249:1
 returns : tie.Need-returns
 returns c =
     c .held-of .ensures
-    ∙ judged-is _ (now (c .before .before .before .before .before .before .before .args .card)) (c .before .before .before .before .before .before .before .args .f) _ (now (c .before .before .before .before .columns .result)) _ _ _ (c .before .before .before .before .columns .ensures) (c .before .before .before .spelling-of .ensures) (c .before .before .read .ensures) (c .before .needed-on .ensures)
+    ∙ judged-is _ (now (c .before .before .before .before .before .before .args .card)) (c .before .before .before .before .before .before .args .f) _ (now (c .before .before .before .before .columns .result)) _ _ _ (c .before .before .before .before .columns .ensures) (c .before .before .before .spelling-of .ensures) (c .before .before .read .ensures) (c .before .needed-on .ensures)
 
 pub judge-spec : {M : Type 1} → statement M
 judge-spec =

@@ -9,11 +9,11 @@ use Rattle.judging.proofs.second_by.Tie as tie
 use Rattle.judging.proofs.second_by.Reads as reads
 use Rattle.judging.proofs.second_by.Lts as lts
 use Rattle.judging.proofs.second_at.Reads as second-at-reads
-use Rattle.layout.proofs.field_by.Reads as field-by-reads
+use Rattle.layout.proofs.field_of.Reads as field-of-reads
 
 -- src/lib.rt:170:9
-field-by-requires : tie.Need-field-by-requires
-field-by-requires c κs = search needs
+field-of-requires : tie.Need-field-of-requires
+field-of-requires c κs = search needs
 
 -- src/lib.rt:171:19
 enum-known-found : tie.Need-enum-known-found
@@ -25,17 +25,17 @@ enum-told c = search needs
 
 -- src/lib.rt:172:9
 returns : tie.Need-returns
-returns c = sym (second-none _ _ (sym (c .before .before .field-by .ensures) ∙ c .enum-told .given .1))
+returns c = sym (second-none _ _ (sym (c .before .before .field-of .ensures) ∙ c .enum-told .given .1))
 
 -- src/lib.rt:174:5
 second-at-requires : tie.Need-second-at-requires
-second-at-requires c κs = let l = found-lies _ _ _ (sym (c .before .before .before .field-by .ensures) ∙ c .before .found .given .1) in omega (arith, c .before .before .before .before .before .before .pre, l .after, l .forward, l .on-card)
+second-at-requires c κs = let l = found-lies _ _ _ (sym (c .before .before .before .field-of .ensures) ∙ c .before .found .given .1) in omega (arith, c .before .before .before .before .before .pre, l .after, l .forward, l .on-card)
 
 -- src/lib.rt:166:1
 returns-2 : tie.Need-returns-2
-returns-2 c = c .second-at .ensures ∙ sym (second-is _ _ _ (sym (c .before .before .before .before .field-by .ensures) ∙ c .before .before .found .given .1))
+returns-2 c = c .second-at .ensures ∙ sym (second-is _ _ _ (sym (c .before .before .before .before .field-of .ensures) ∙ c .before .before .found .given .1))
 
 pub second-by-spec : {M : Type 1} → statement M
 second-by-spec =
     tie.close
-    (tie.spec field-by-requires enum-known-found enum-told returns second-at-requires returns-2)
+    (tie.spec field-of-requires enum-known-found enum-told returns second-at-requires returns-2)

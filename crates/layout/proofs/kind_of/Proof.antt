@@ -31,12 +31,12 @@ returns-6 c = rw (c .match .keys6)
 returns-7 : tie.Need-returns-7
 unfolding kindOf
 returns-7 c = rw (
-  ne-eqb _ 0 (c .match .rest .0 .0 .0 .0 .0 .1),
-  ne-eqb _ 1 (c .match .rest .0 .0 .0 .0 .1),
-  ne-eqb _ 2 (c .match .rest .0 .0 .0 .1),
-  ne-eqb _ 3 (c .match .rest .0 .0 .1),
-  ne-eqb _ 4 (c .match .rest .0 .1),
-  ne-eqb _ 5 (c .match .rest .1),
+  ne-eqb _ 10 (c .match .rest .0 .0 .0 .0 .0 .1),
+  ne-eqb _ 12 (c .match .rest .0 .0 .0 .0 .1),
+  ne-eqb _ 1 (c .match .rest .0 .0 .0 .1),
+  ne-eqb _ 2 (c .match .rest .0 .0 .1),
+  ne-eqb _ 13 (c .match .rest .0 .1),
+  ne-eqb _ 14 (c .match .rest .1),
 )
 
 pub kind-of-spec : {M : Type 1} → statement M

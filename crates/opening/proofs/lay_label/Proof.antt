@@ -14,22 +14,16 @@ use Rattle.opening.proofs.lay_label.Statement.{statement}
 use Rattle.opening.proofs.lay_label.Tie as tie
 
 abbrev Inv-loop : tie.InvT-loop
-Inv-loop columns₀ layout table i₀ columns i = (i ≤ length columns₀) × (length columns ≡ length columns₀) × (columns ≡ take i (labelled (labelOf layout) (length columns₀)) ++ drop i columns₀)
+Inv-loop columns₀ layout i₀ columns i = (i ≤ length columns₀) × (length columns ≡ length columns₀) × (columns ≡ take i (labelled (labelOf layout) (length columns₀)) ++ drop i columns₀)
 
 abbrev μ-loop : tie.MeasureT-loop
-μ-loop columns₀ layout table i₀ columns i = length columns - i
-
-table-requires : tie.Need-table-requires Inv-loop μ-loop
-table-requires c κs = search needs
+μ-loop columns₀ layout i₀ columns i = length columns - i
 
 loop-holds : tie.Need-loop-holds Inv-loop μ-loop
 loop-holds c = (search needs, refl, refl)
 
-slice-aggregate-label-byte-by : tie.Need-slice-aggregate-label-byte-by Inv-loop μ-loop
-slice-aggregate-label-byte-by c = search needs
-
-label-byte-by-requires : tie.Need-label-byte-by-requires Inv-loop μ-loop
-label-byte-by-requires c κs = search needs
+label-byte-requires : tie.Need-label-byte-requires Inv-loop μ-loop
+label-byte-requires c κs = search needs
 
 slice-write-columns : tie.Need-slice-write-columns Inv-loop μ-loop
 slice-write-columns c = search needs
@@ -41,15 +35,15 @@ loop-less : tie.Need-loop-less Inv-loop μ-loop
 loop-less c = simp length-set (omega arith)
 
 loop-again : tie.Need-loop-again Inv-loop μ-loop
-loop-again c = let b = c .before .before .before .loop in let d = now (c .before .before .before .before .before .before .args .columns) in
-    (omega arith, simp length-set (b .inv .1), ap (λ (l : List ℕ). set l (b .i) (c .label-byte-by .result)) (b .inv .2) ∙ laid-on (b .i) (labelOf (c .before .before .before .before .before .before .args .layout)) d (c .label-byte-by .result) (c .before .before .before .before .before .before .pre) (omega arith) (c .label-byte-by .ensures))
+loop-again c = let b = c .before .before .loop in let d = now (c .before .before .before .before .args .columns) in
+    (omega arith, simp length-set (b .inv .1), ap (λ (l : List ℕ). set l (b .i) (c .label-byte .result)) (b .inv .2) ∙ laid-on (b .i) (labelOf (c .before .before .before .before .args .layout)) d (c .label-byte .result) (c .before .before .before .before .pre) (omega arith) (c .label-byte .ensures))
 
 same-length : tie.Need-same-length Inv-loop μ-loop
 same-length c = c .before .loop .inv .1
 
 returns : tie.Need-returns Inv-loop μ-loop
-returns c = let b = c .before .loop in let d = now (c .before .before .before .before .args .columns) in let t = labelled (labelOf (c .before .before .before .before .args .layout)) (length d) in
-    b .inv .2 ∙ ap₂ (λ (x y : List ℕ). x ++ y) (take-all (b .i) t (omega (arith, labelled-length (labelOf (c .before .before .before .before .args .layout)) (length d) (c .before .before .before .before .pre)))) (drop-of-length-le d {i = b .i} (omega arith)) ∙ append-nil t
+returns c = let b = c .before .loop in let d = now (c .before .before .before .args .columns) in let t = labelled (labelOf (c .before .before .before .args .layout)) (length d) in
+    b .inv .2 ∙ ap₂ (λ (x y : List ℕ). x ++ y) (take-all (b .i) t (omega (arith, labelled-length (labelOf (c .before .before .before .args .layout)) (length d) (c .before .before .before .pre)))) (drop-of-length-le d {i = b .i} (omega arith)) ∙ append-nil t
 
 pub lay-label-spec : {M : Type 1} → statement M
 lay-label-spec =
@@ -57,10 +51,8 @@ lay-label-spec =
     (tie.spec
     Inv-loop
     μ-loop
-    table-requires
     loop-holds
-    slice-aggregate-label-byte-by
-    label-byte-by-requires
+    label-byte-requires
     slice-write-columns
     add-i
     loop-less

@@ -48,7 +48,7 @@ returns-3 c = c .refused3 .ensures ∙ sym (sought-bad _ _ _ (c .before .before 
 
 -- src/lib.rt:104:32
 slice-aggregate-code-of : tie.Need-slice-aggregate-code-of
-slice-aggregate-code-of c = sym (length-take-le 5 (now (c .before .before .before .before .before .before .before .args .card)) (omega arith))
+slice-aggregate-code-of c = sym (length-take-le 5 (now (c .before .before .before .before .before .before .args .card)) (omega arith))
 
 -- src/lib.rt:104:9
 code-of-requires : tie.Need-code-of-requires
@@ -81,17 +81,17 @@ under-form-requires c κs = search needs
 -- src/lib.rt:91:1
 returns-4 : tie.Need-returns-4
 unfolding coded
-returns-4 c = c .refused4 .ensures ∙ sym (sought-coded _ _ _ (c .before .before .before .before .before .before .before .before .if1 .left) (c .before .before .before .before .before .before .before .if2 .left) _ (c .before .before .before .before .before .before .first-bad .ensures) (c .before .before .before .before .before .if3 .left) ∙ ap (λ k. coded k (c .before .before .before .before .before .before .before .before .before .before .before .args .number) (c .before .before .before .before .before .before .before .before .before .before .before .args .form)) (sym (c .before .before .before .code-of .ensures) ∙ c .before .enum-told .given .1))
+returns-4 c = c .refused4 .ensures ∙ sym (sought-coded _ _ _ (c .before .before .before .before .before .before .before .before .if1 .left) (c .before .before .before .before .before .before .before .if2 .left) _ (c .before .before .before .before .before .before .first-bad .ensures) (c .before .before .before .before .before .if3 .left) ∙ ap (λ k. coded k (c .before .before .before .before .before .before .before .before .before .before .args .number) (c .before .before .before .before .before .before .before .before .before .before .args .form)) (sym (c .before .before .before .code-of .ensures) ∙ c .before .enum-told .given .1))
 
 -- src/lib.rt:91:1
 returns-5 : tie.Need-returns-5
 unfolding coded
-returns-5 c = c .refused5 .ensures ∙ sym (sought-coded _ _ _ (c .before .before .before .before .before .before .before .before .if1 .left) (c .before .before .before .before .before .before .before .if2 .left) _ (c .before .before .before .before .before .before .first-bad .ensures) (c .before .before .before .before .before .if3 .left) ∙ ap (λ k. coded k (c .before .before .before .before .before .before .before .before .before .before .before .args .number) (c .before .before .before .before .before .before .before .before .before .before .before .args .form)) (sym (c .before .before .before .code-of .ensures) ∙ c .before .enum-told2 .given .1))
+returns-5 c = c .refused5 .ensures ∙ sym (sought-coded _ _ _ (c .before .before .before .before .before .before .before .before .if1 .left) (c .before .before .before .before .before .before .before .if2 .left) _ (c .before .before .before .before .before .before .first-bad .ensures) (c .before .before .before .before .before .if3 .left) ∙ ap (λ k. coded k (c .before .before .before .before .before .before .before .before .before .before .args .number) (c .before .before .before .before .before .before .before .before .before .before .args .form)) (sym (c .before .before .before .code-of .ensures) ∙ c .before .enum-told2 .given .1))
 
 -- src/lib.rt:91:1
 returns-6 : tie.Need-returns-6
 unfolding coded
-returns-6 c = c .under-form .ensures ∙ sym (sought-coded _ _ _ (c .before .before .before .before .before .before .before .before .before .if1 .left) (c .before .before .before .before .before .before .before .before .if2 .left) _ (c .before .before .before .before .before .before .before .first-bad .ensures) (c .before .before .before .before .before .before .if3 .left) ∙ ap (λ k. coded k (c .before .before .before .before .before .before .before .before .before .before .before .before .args .number) (c .before .before .before .before .before .before .before .before .before .before .before .before .args .form)) (sym (c .before .before .before .before .code-of .ensures) ∙ c .before .before .code .given .1))
+returns-6 c = c .under-form .ensures ∙ sym (sought-coded _ _ _ (c .before .before .before .before .before .before .before .before .before .if1 .left) (c .before .before .before .before .before .before .before .before .if2 .left) _ (c .before .before .before .before .before .before .before .first-bad .ensures) (c .before .before .before .before .before .before .if3 .left) ∙ ap (λ k. coded k (c .before .before .before .before .before .before .before .before .before .before .before .args .number) (c .before .before .before .before .before .before .before .before .before .before .before .args .form)) (sym (c .before .before .before .before .code-of .ensures) ∙ c .before .before .code .given .1))
 
 pub seek-spec : {M : Type 1} → statement M
 seek-spec =

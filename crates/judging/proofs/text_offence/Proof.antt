@@ -1,0 +1,30 @@
+-- `judging::text_offence` meets its contract.
+use denote.Ref.{now}
+use mathlib.Core.Path.{sym, _∙_}
+use Rattle.judging.proofs.Offences.{text-filled, text-missing, text-led, text-odd}
+use borrow.Author.Needs.{needs}
+use Rattle.judging.proofs.text_offence.Statement.{statement}
+use Rattle.judging.proofs.text_offence.Tie as tie
+
+shared-slice-read-if1 : tie.Need-shared-slice-read-if1
+shared-slice-read-if1 c = search needs
+
+returns : tie.Need-returns
+returns c = sym (text-filled (now (c .before .before .before .args .s)) _ (c .before .before .before .pre) (c .if1 .taken))
+
+is-blank-requires : tie.Need-is-blank-requires
+is-blank-requires c κs = search needs
+
+returns-2 : tie.Need-returns-2
+returns-2 c = sym (text-missing (now (c .before .before .before .before .before .args .s)) _ (sym (c .before .is-blank .ensures) ∙ c .if2 .taken))
+
+returns-3 : tie.Need-returns-3
+returns-3 c = sym (text-led (now (c .before .before .before .before .before .before .args .s)) _ (sym (c .before .before .is-blank .ensures) ∙ c .before .if2 .left) (c .if3 .taken))
+
+returns-4 : tie.Need-returns-4
+returns-4 c = sym (text-odd (now (c .before .before .before .before .before .before .args .s)) _ (c .before .before .before .before .before .before .pre) (c .before .before .before .if1 .left) (sym (c .before .before .is-blank .ensures) ∙ c .before .if2 .left) (c .if3 .left))
+
+pub text-offence-spec : {M : Type 1} → statement M
+text-offence-spec =
+    tie.close
+    (tie.spec shared-slice-read-if1 returns is-blank-requires returns-2 returns-3 returns-4)
