@@ -8,10 +8,10 @@ use borrow.Author.Tests.{eq-eqb, ne-eqb}
 use Rattle.lists.specs.Count.{count}
 use Rattle.forms.specs.Cards.{cardsIn}
 use Rattle.keys.specs.Keys.{contradict}
-use Rattle.tally.specs.Chains.{holds, onlyTag}
+use Rattle.tally.specs.Chains.{holds, last, onlyTag}
 use Rattle.tally.proofs.Only.{only-passes}
 use Rattle.gathering.specs.Gathered.{entriesPassing, Gathered}
-use Rattle.breaking.specs.Asked.{isNumber, isApart, timesOf, onlyApart}
+use Rattle.breaking.specs.Asked.{isNumber, isApart, linkTo, timesOf, onlyApart}
 
 -- a card without a vessel digit contradicts nothing
 says-nothing : (vessel : ℕ) → contradict vessel 10 ≡ false
@@ -21,6 +21,15 @@ says-nothing vessel = go (ltb vessel 10)
     go : (b : Bool) → (b && false) ≡ false
     go true = refl
     go false = refl
+
+-- where a number is found
+pub no-link : (numbers : List ℕ) (n k : ℕ) → k ≡ 0 → 0 ≡ linkTo numbers n k
+unfolding linkTo
+no-link numbers n k e = rw (eq-eqb k 0 e)
+
+pub a-link : (numbers : List ℕ) (n k : ℕ) → (k ≡ 0 → ⊥) → linkTo numbers n k ≡ last (holds numbers k) n
+unfolding linkTo
+a-link numbers n k z = rw (ne-eqb k 0 z)
 
 module _ (h : List ℕ) where
   pub no-number : (k : ℕ) → k ≡ 0 → 0 ≡ timesOf h k

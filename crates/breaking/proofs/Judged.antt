@@ -13,7 +13,8 @@ use Rattle.keys.specs.Roles.{defines, refers}
 use Rattle.keys.specs.Lines.{packedBy}
 use Rattle.bearing.proofs.Told.{vessel-at}
 use Rattle.gathering.specs.Numbers.{tagOn}
-use Rattle.gathering.proofs.Counting.{counted-few, points-few}
+use Rattle.noting.proofs.Noting.{points-few}
+use Rattle.gathering.proofs.Counting.{counted-few}
 use Rattle.breaking.specs.declared.Broken.{Broken}
 use Rattle.breaking.specs.Asked.{timesOf, onlyApart, contradictedBy, miscountedBy}
 use Rattle.breaking.specs.Kinds.{brokenFor}

@@ -18,7 +18,8 @@ use Rattle.keys.specs.Keys.{isNone, wholeIn, classAt, keyAt, holdsKey}
 use Rattle.keys.specs.Lines.{marked, unmarked}
 use Rattle.keys.proofs.Steps.{mark-tells}
 use Rattle.bearing.proofs.Found.{Small, small-in}
-use Rattle.gathering.specs.Numbers.{vesselIn, pointsTo}
+use Rattle.noting.specs.Noted.{pointsTo}
+use Rattle.gathering.specs.Numbers.{vesselIn}
 use Rattle.gathering.specs.Gathered.{entriesPassing, Gathered, Counted}
 use Rattle.gathering.proofs.Counting.{below-waypoints}
 use Rattle.broken.specs.Definitions.{places, cardOf, columnOf, waypointAt, waypointsOf, pointsOf}
@@ -66,13 +67,16 @@ module _ (s : List ℕ) (column k : ℕ) (is : k ≡ layoutOf s) (waypoints : Li
       rw (← is, e) (h ∙ differs-by (wholeIn 79 80 s) m found (shape 79 80 s m q)
       ∙ ap (differs (wholeIn 79 80 s)) (f ∙ ap (vesselCount waypoints) (sym (shape 30 30 s v p))))
 
-  pub of-grid : (eqb k 8 && eqb column 79) ≡ false → (m : ℕ) (r : Bool) → m ≡ marked (wholeIn 16 19 s)
-      → r ≡ (not (eqb m 0) && not (eqb m (points + 1)))
-      → ((eqb k 12 && eqb column 16) && r) ≡ miscountedBy s column waypoints points
+  pub of-grid : (eqb k 8 && eqb column 79) ≡ false → (eqb k 12 && eqb column 16) ≡ true → (m : ℕ) (r : Bool)
+      → m ≡ marked (wholeIn 16 19 s) → r ≡ (not (eqb m 0) && not (eqb m (points + 1)))
+      → r ≡ miscountedBy s column waypoints points
   unfolding miscountedBy
-  of-grid e m r q h =
-      rw (← is, e) (ap (λ t. (eqb k 12 && eqb column 16) && t)
-      (h ∙ differs-by (wholeIn 16 19 s) m points (shape 16 19 s m q)))
+  of-grid e g m r q h = rw (← is, e, g) (h ∙ differs-by (wholeIn 16 19 s) m points (shape 16 19 s m q))
+
+  pub of-none : (eqb k 8 && eqb column 79) ≡ false → (eqb k 12 && eqb column 16) ≡ false
+      → false ≡ miscountedBy s column waypoints points
+  unfolding miscountedBy
+  of-none e g = rw (← is, e, g)
 
 pub count-small : (waypoints l : List ℕ) → ((i : ℕ) → getD waypoints i 0 ≤ 64000) → vesselCount waypoints l ≤ 64000
 unfolding vesselCount

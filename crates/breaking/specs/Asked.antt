@@ -9,6 +9,7 @@ use Rattle.lists.specs.Parts.{alike}
 use Rattle.keys.specs.Roles.{H00X8, H0100}
 use Rattle.keys.specs.Keys.{wholeIn, vesselOf, contradict}
 use Rattle.broken.specs.Faults.{statesVessel, differs}
+use Rattle.tally.specs.Chains.{holds, last}
 use Rattle.gathering.specs.Numbers.{passing, vesselIn}
 
 abbrev pub isNumber : ℕ → ℕ → ℕ → Bool
@@ -19,6 +20,10 @@ isApart k vessel n tag = eqb n k && contradict vessel tag
 
 abbrev pub isWaypoint : ℕ → ℕ → ℕ → Bool
 isWaypoint d n tag = eqb (vesselIn n) d
+
+-- where n entries have a number last, named as in a chain; 0 is no number
+unfoldable pub linkTo : List ℕ → ℕ → ℕ → ℕ
+linkTo numbers n k = cond (eqb k 0) 0 (last (holds numbers k) n)
 
 -- how often a key is defined
 unfoldable pub timesOf : List ℕ → ℕ → ℕ

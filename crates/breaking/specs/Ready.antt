@@ -5,7 +5,7 @@ use mathlib.Core.Bool.{true}
 use mathlib.Core.List.{List}
 use Rattle.text.specs.Texts.{printable}
 use Rattle.forms.specs.Cards.{cardAt, cardsIn}
-use Rattle.gathering.specs.Numbers.{pointsTo}
+use Rattle.noting.specs.Noted.{pointsTo}
 use Rattle.gathering.specs.Gathered.{Gathered, Counted}
 
 pub record Ready (h numbers tags : List ℕ) (n : ℕ) (heads next times waypoints : List ℕ) (points : ℕ) : Type 0 where

@@ -4,6 +4,7 @@ use tally::BUCKETS;
 use tally::ROOM;
 ghost use mathlib.Core.Path.{_≡_};
 ghost use mathlib.Core.Bool.{true, _&&_, not};
+ghost use mathlib.Core.List.{List};
 ghost use Prim.Native.Nat.{ℕ, _+_, _*_, _≤_};
 ghost use lib.Dec.{eqb};
 ghost use lib.ListN.{length, getD};
@@ -12,8 +13,9 @@ ghost use Rattle.forms.specs.Cards.{cardsIn, layoutOf};
 ghost use Rattle.keys.specs.Keys.{contradict};
 ghost use Rattle.keys.specs.Lines.{unmarked};
 ghost use Rattle.tying.specs.Columns.{statesOwn};
+ghost use Rattle.tally.specs.Chains.{Linked};
 ghost use Rattle.gathering.specs.Gathered.{Gathered};
-ghost use Rattle.breaking.specs.Asked.{timesOf, onlyApart, contradictedBy, vesselCount, miscountedBy};
+ghost use Rattle.breaking.specs.Asked.{linkTo, timesOf, onlyApart, contradictedBy, vesselCount, miscountedBy};
 ghost use Rattle.breaking.specs.Kinds.{brokenFor};
 ghost use Rattle.breaking.specs.Ready.{Ready};
 
@@ -36,7 +38,24 @@ pub struct Broken {
     pub miscounted: bool,
 }
 
-// How often a number that is not 0 is defined in a header.
+// Where the tally has a number last; 0 where it has it not, and for 0, which is no number.
+fn find_number(
+    numbers: &[u64; ROOM],
+    heads: &[u16; BUCKETS],
+    next: &[u16; ROOM],
+    n: usize,
+    number: u64,
+) -> usize
+    requires { ⌜ ((times : List ℕ) × Linked (now numbers) n (now heads) (now next) times) ⌝ }
+    ensures { λ r. ⌜ r ≡ linkTo (now (numbers .entry)) n number ⌝ }
+{
+    if number == 0 {
+        return 0;
+    }
+    tally::find(numbers, heads, next, n, number)
+}
+
+// How often a number that is not 0 is defined in a header, by where it was found.
 fn times_defined(
     header: &[u8],
     numbers: &[u64; ROOM],
@@ -46,14 +65,16 @@ fn times_defined(
     times: &[u16; ROOM],
     n: usize,
     number: u64,
+    link: usize,
 ) -> usize
+    requires { ⌜ link ≡ linkTo (now numbers) n number ⌝ }
     requires { ⌜ Gathered (now header) (80 * cardsIn (now header)) (now numbers) (now tags) n (now heads) (now next) (now times) ⌝ }
     ensures { λ r. ⌜ r ≡ timesOf (now (header .entry)) number ⌝ }
 {
     if number == 0 {
         return 0;
     }
-    tally::count_of(numbers, heads, next, times, n, number)
+    tally::count_by(numbers, heads, next, times, n, number, link)
 }
 
 // Whether two vessel digits are there and differ.
@@ -73,8 +94,10 @@ fn only_apart(
     times: &[u16; ROOM],
     n: usize,
     number: u64,
+    link: usize,
     vessel: u8,
 ) -> bool
+    requires { ⌜ link ≡ linkTo (now numbers) n number ⌝ }
     requires { ⌜ Gathered (now header) (80 * cardsIn (now header)) (now numbers) (now tags) n (now heads) (now next) (now times) ⌝ }
     ensures { λ r. ⌜ r ≡ onlyApart (now (header .entry)) number vessel ⌝ }
 {
@@ -83,7 +106,7 @@ fn only_apart(
     }
     digits_differ(
         vessel,
-        tally::only_tag(numbers, tags, heads, next, times, n, number),
+        tally::tag_by(numbers, tags, heads, next, times, n, number, link),
     )
 }
 
@@ -149,9 +172,11 @@ fn miscounts(
         let found = counted(waypoints, vessel);
         return differs(stated, found);
     }
-    let own = (layout == H0100) & (column == 16);
-    let stated = keys::whole_in(card, 16, 19);
-    own & differs(stated, points)
+    if (layout == H0100) & (column == 16) {
+        let stated = keys::whole_in(card, 16, 19);
+        return differs(stated, points);
+    }
+    false
 }
 
 // Which kinds of fault a column of a card has.
@@ -177,8 +202,30 @@ pub fn judge_column(
     let reference = keys::referred_by(card, layout, column);
     let definition = keys::defined_by(card, layout, column);
     let vessel = gathering::tag_of(card, layout);
-    let referred = times_defined(header, numbers, tags, heads, next, times, n, reference);
-    let defined = times_defined(header, numbers, tags, heads, next, times, n, definition);
+    let link = find_number(numbers, heads, next, n, reference);
+    let place = find_number(numbers, heads, next, n, definition);
+    let referred = times_defined(
+        header,
+        numbers,
+        tags,
+        heads,
+        next,
+        times,
+        n,
+        reference,
+        link,
+    );
+    let defined = times_defined(
+        header,
+        numbers,
+        tags,
+        heads,
+        next,
+        times,
+        n,
+        definition,
+        place,
+    );
     let apart = only_apart(
         header,
         numbers,
@@ -188,6 +235,7 @@ pub fn judge_column(
         times,
         n,
         reference,
+        link,
         vessel,
     );
     let contradicted = contradicts(card, layout, column, apart);

@@ -15,7 +15,7 @@ use Rattle.header.specs.declared.Checked.the-variants.{Accepted}
 use Rattle.header.specs.Refusing.{refusalOf}
 use Rattle.header_laws.proofs.Rows.{fine-exactly}
 use Rattle.header_laws.proofs.Exactly.{accepted-exactly}
-use Rattle.gathering.specs.Numbers.{pointsTo}
+use Rattle.noting.specs.Noted.{pointsTo}
 use Rattle.gathering.specs.Gathered.{Gathered, Counted}
 use Rattle.breaking.specs.Ready.{Ready}
 

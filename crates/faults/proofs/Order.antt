@@ -124,6 +124,11 @@ module _ (h : List ℕ) (c : ℕ) where
       none p f [] = refl
       none p f (x ∷ l) = rw (f x) (none p f l)
 
+  -- a slot without a column has no entries
+  pub no-slot : (slot : ℕ) → getD (tieColumns (layoutOf (cardAt h c))) slot 0 ≡ 0 → slotEntries h c slot ≡ []
+  unfolding slotEntries
+  no-slot slot e = rw e (no-entries 0 (none-at-zero (layoutOf (cardAt h c))))
+
   at-sites : kept (brokenSite h c) (sitesOf (layoutOf (cardAt h c))) ≡ kept (brokenSite h c) (upTo 400)
   unfolding sitesOf broken
   at-sites = kept-within (brokenSite h c) (λ i. isSite (layoutOf (cardAt h c)) (i / 5 + 1) (i % 5 + 1)) (λ i e. not-there i e (brokenSite h c i) refl) (upTo 400)

@@ -1,10 +1,11 @@
 -- One column more, one card more.
-use Prim.Native.Nat.{ℕ, zero, suc, _+_, _-_, _<_}
+use Prim.Native.Nat.{ℕ, zero, suc, _+_, _-_, _≤_, _<_}
 use native.Mathlib.Numerals.{add-one}
+use native.Mathlib.Decide.{decLt}
 use native.Mathlib.Omega.{arith}
 use mathlib.Core.Path.{_≡_, refl, sym, ap, _∙_}
 use mathlib.Core.Bool.{Bool, true, false}
-use mathlib.Core.List.{List, [], _∷_, _++_, map, flatMap, List·Memᴰ, List·Memᴰ·head, List·Memᴰ·tail}
+use mathlib.Core.List.{List, [], _∷_, _++_, map, flatMap, append-nil, List·Memᴰ, List·Memᴰ·head, List·Memᴰ·tail}
 use lib.ListN.{length, getD, length-append}
 use Rattle.lists.specs.Parts.{keep, kept, upTo}
 use Rattle.lists.proofs.Keeping.{out-of-kept, out-of-upTo}
@@ -31,6 +32,20 @@ run-more g l₀ l l′ found m r i a b d e =
       d ∙ rw (a, b) (stored-append w (g i) l₀ found) ∙ ap (storedAll l₀ found) (sym more),
       omega (arith, ap length more, length-append w (g i)),
     )
+
+-- behind what gives nothing more
+pub run-rest : (g : ℕ → List (List ℕ)) (m n : ℕ) → m ≤ n → ((i : ℕ) → m ≤ i → i < n → g i ≡ [])
+    → flatMap g (upTo n) ≡ flatMap g (upTo m)
+unfolding upTo
+run-rest g m zero l h = let q : m ≡ 0 = omega arith in ap (λ i. flatMap g (upTo i)) (sym q)
+run-rest g m (suc n) l h = elim (decLt n m) [
+  | yes k ↦ let q : m ≡ suc n = omega arith in ap (λ i. flatMap g (upTo i)) (sym q)
+  | no k ↦
+      entries-more g (upTo n) n
+      ∙ ap (λ e. flatMap g (upTo n) ++ e) (h n (omega arith) (omega arith))
+      ∙ append-nil _
+      ∙ run-rest g m n (omega arith) (λ i a b. h i a (omega arith))
+]
 
 -- what a column gives
 pub slot-gives : (h : List ℕ) (c slot column : ℕ) (b : Broken) → column ≡ getD (tieColumns (layoutOf (cardAt h c))) slot 0

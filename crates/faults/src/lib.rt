@@ -2,6 +2,7 @@
 use breaking::Broken;
 use gathering::VESSELS;
 use header::Checked;
+use noting::CARDS;
 use tally::BUCKETS;
 use tally::ROOM;
 ghost use mathlib.Core.Path.{_≡_};
@@ -13,6 +14,7 @@ ghost use Rattle.lists.specs.Count.{bit};
 ghost use Rattle.lists.specs.Laid.{laid, stored};
 ghost use Rattle.broken.specs.Faults.{faults, entries};
 ghost use Rattle.forms.specs.Cards.{cardsIn};
+ghost use Rattle.noting.specs.Noted.{Noted};
 ghost use Rattle.breaking.specs.Ready.{Ready};
 ghost use Rattle.header.specs.Refusing.{refusalOf};
 ghost use Rattle.faults.specs.Listed.{cardEntries};
@@ -78,8 +80,10 @@ fn list_card(
     n: usize,
     waypoints: &[usize; VESSELS],
     points: usize,
+    layouts: &[usize; CARDS],
     place: usize,
 ) -> usize
+    requires { ⌜ Noted (now header) (cardsIn (now header)) (now layouts) ⌝ }
     requires { ⌜ Ready (now header) (now numbers) (now tags) n (now heads) (now next) (now times) (now waypoints) points ⌝ }
     requires { ⌜ place < cardsIn (now header) ⌝ }
     requires { ⌜ found ≤ 25 * place ⌝ }
@@ -90,11 +94,14 @@ fn list_card(
 {
     let from = place * CARD;
     let card = &header[from..from + CARD];
-    let layout = forms::layout_of(card);
+    let layout = layouts[place];
     let mut m = found;
     let mut slot: usize = 0;
     while slot < SLOTS {
         let column = tying::tie_column(layout, slot);
+        if column == 0 {
+            return m;
+        }
         let broken = breaking::judge_column(
             header,
             numbers,
@@ -127,7 +134,9 @@ fn list_cards(
     n: usize,
     waypoints: &[usize; VESSELS],
     points: usize,
+    layouts: &[usize; CARDS],
 ) -> usize
+    requires { ⌜ Noted (now header) (cardsIn (now header)) (now layouts) ⌝ }
     requires { ⌜ Ready (now header) (now numbers) (now tags) n (now heads) (now next) (now times) (now waypoints) points ⌝ }
     ensures list { λ _. ⌜ now (list .exit) ≡ laid 3 (now (list .entry)) (entries (faults (now (header .entry)))) ⌝ }
     ensures number { λ r. ⌜ r ≡ length (faults (now (header .entry))) ⌝ }
@@ -148,6 +157,7 @@ fn list_cards(
             n,
             waypoints,
             points,
+            layouts,
             place,
         );
         place += 1;
@@ -167,8 +177,11 @@ pub fn list_faults(header: &[u8], list: &mut [u32]) -> usize
     let mut next = [0u16; ROOM];
     let mut times = [0u16; ROOM];
     let mut waypoints = [0usize; VESSELS];
+    let mut layouts = [0usize; CARDS];
+    noting::note_layouts(header, &mut layouts);
     let n = gathering::gather(
         header,
+        &layouts,
         &mut numbers,
         &mut tags,
         &mut heads,
@@ -176,7 +189,7 @@ pub fn list_faults(header: &[u8], list: &mut [u32]) -> usize
         &mut times,
     );
     gathering::count_waypoints(&numbers, n, &mut waypoints);
-    let points = gathering::points_in(header);
+    let points = noting::points_in(header, &layouts);
     list_cards(
         list,
         header,
@@ -188,5 +201,6 @@ pub fn list_faults(header: &[u8], list: &mut [u32]) -> usize
         n,
         &waypoints,
         points,
+        &layouts,
     )
 }

@@ -1,4 +1,4 @@
--- Counting waypoints by vessel, and the cards with points.
+-- Counting waypoints by vessel.
 use Prim.Native.Nat.{ℕ, _+_, _-_, _/_, _≤_, _<_}
 use native.Mathlib.Decide.{ℕ-discrete}
 use native.Mathlib.Omega.{arith}
@@ -8,10 +8,9 @@ use lib.Dec.{eqb}
 use lib.ListN.{length, getD, set, replicate, length-set, length-replicate, getD-replicate}
 use lib.Seq.{getD-set-same, getD-set-other}
 use borrow.Author.Tests.{eq-eqb, ne-eqb, lt-ltb, le-ltb, le-leb, lt-leb}
-use Rattle.lists.specs.Count.{bit, count}
+use Rattle.lists.specs.Count.{count}
 use Rattle.lists.proofs.Counting.{count-le, count-more}
-use Rattle.forms.specs.Cards.{cardAt, layoutOf}
-use Rattle.gathering.specs.Numbers.{waypointsFrom, vesselIn, pointsTo}
+use Rattle.gathering.specs.Numbers.{waypointsFrom, vesselIn}
 use Rattle.gathering.specs.Gathered.{Counted}
 
 -- the vessel of a number, by where the number lies
@@ -65,17 +64,3 @@ counted-more numbers n waypoints after v k is l e = record {
 pub all-counted : (numbers : List ℕ) (i n : ℕ) (waypoints : List ℕ) → i ≡ n → Counted numbers i waypoints
     → Counted numbers n waypoints
 all-counted numbers i n waypoints e k = subst (λ (j : ℕ). Counted numbers j waypoints) e k
-
--- the cards with points
-pub no-points : (h : List ℕ) → 0 ≡ pointsTo h 0
-unfolding pointsTo count
-no-points h = refl
-
-pub points-few : (h : List ℕ) (c : ℕ) → pointsTo h c ≤ c
-unfolding pointsTo
-points-few h c = count-le (λ i. eqb (layoutOf (cardAt h i)) 13) c
-
-pub points-more : (h : List ℕ) (c found k b : ℕ) → found ≡ pointsTo h c → k ≡ layoutOf (cardAt h c) → b ≡ bit (eqb k 13)
-    → found + b ≡ pointsTo h (c + 1)
-unfolding pointsTo
-points-more h c found k b e q r = rw (count-more (λ i. eqb (layoutOf (cardAt h i)) 13) c, e, r, q)

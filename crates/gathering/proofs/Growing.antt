@@ -1,5 +1,5 @@
 -- One definition more, one card more.
-use Prim.Native.Nat.{ℕ, _+_, _*_, _-_, _/_, _%_, _<_}
+use Prim.Native.Nat.{ℕ, _+_, _*_, _-_, _/_, _%_, _≤_, _<_}
 use native.Mathlib.Nat.{add-zero, add-assoc}
 use native.Mathlib.Omega.{arith}
 use mathlib.Core.Path.{_≡_, refl, sym, ap, subst, _∙_}
@@ -8,19 +8,19 @@ use mathlib.Core.List.{List}
 use lib.ListN.{length, getD, set, replicate, length-set, length-replicate}
 use lib.Seq.{getD-set-same, getD-set-other}
 use Rattle.lists.specs.Count.{bit, count}
-use Rattle.lists.proofs.Counting.{count-more, count-same, count-run}
+use Rattle.lists.proofs.Counting.{count-more, count-same, count-skip, count-run}
 use Rattle.forms.specs.Cards.{cardAt, byteIn, layoutOf}
 use Rattle.packing.proofs.Steps.{none-packed}
 use Rattle.keys.specs.Roles.{defines, hasVessel}
 use Rattle.keys.specs.Keys.{classAt, keyAt}
 use Rattle.keys.specs.Lines.{packedBy, vesselBy}
 use Rattle.tying.specs.Columns.{canTie, tieColumns}
-use Rattle.tying.proofs.Tied.{idle, Idle}
+use Rattle.tying.proofs.Tied.{idle, Idle, none-behind}
 use Rattle.tally.specs.Chains.{room, buckets, Linked}
 use Rattle.tally.proofs.Adding.{zeros-linked}
 use Rattle.gathering.specs.Numbers.{numberOn, tagOn, numberAt, tagAt, passing}
 use Rattle.gathering.specs.Gathered.{Test, Sparing, entriesPassing, columnPasses, onColumn, onSlots, Grown, Gathered}
-use Rattle.gathering.proofs.Slots.{by-slots}
+use Rattle.gathering.proofs.Slots.{none-at-zero, by-slots}
 
 -- one entry more
 entry-more : (numbers tags : List ℕ) (n number tag : ℕ) → n < length numbers → n < length tags → (test : Test)
@@ -101,6 +101,20 @@ unfolding columnPasses numberOn packedBy classAt keyAt
 idle-column s test sparing column h =
     let i : Idle s column = idle s column h in
     rw (i .class defines, i .key defines, none-packed 0) (sparing (tagOn s))
+
+-- behind a slot without a column there is nothing
+pub rest-slots : (s a ta b tb heads next times : List ℕ) (slot n m : ℕ) → slot ≤ 5
+    → getD (tieColumns (layoutOf s)) slot 0 ≡ 0 → Grown (onSlots s slot) a ta n b tb m heads next times
+    → Grown (onSlots s 5) a ta n b tb m heads next times
+unfolding onSlots
+rest-slots s a ta b tb heads next times slot n m l e g = record {
+  linked = g .linked;
+  tags-room = g .tags-room;
+  passes = λ test sparing.
+      let none : (i : ℕ) → slot ≤ i → i < 5 → columnPasses s (getD (tieColumns (layoutOf s)) i 0) test ≡ false =
+      λ i low high. rw (none-behind (layoutOf s) slot e i low) (idle-column s test sparing 0 (none-at-zero (layoutOf s))) in
+      g .passes test sparing ∙ ap (λ k. entriesPassing test a ta n + k) (sym (count-skip _ slot 5 l none));
+}
 
 -- one card more
 passing-more : (test : Test) → Sparing test → (h : List ℕ) (c : ℕ)

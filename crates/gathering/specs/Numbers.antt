@@ -6,7 +6,7 @@ use lib.Dec.{eqb, leb, ltb}
 use Rattle.lists.specs.Count.{count}
 use Rattle.forms.specs.Cards.{cardAt, layoutOf}
 use Rattle.packing.specs.Packing.{room}
-use Rattle.keys.specs.Roles.{defines, H0101}
+use Rattle.keys.specs.Roles.{defines}
 use Rattle.keys.specs.Lines.{packedBy, vesselBy}
 
 -- the number of the key that a column of a card defines, 0 where it defines none
@@ -35,7 +35,3 @@ waypointsFrom = 7 * room
 -- the vessel of a number that is a waypoint's, 10 for any other number
 unfoldable pub vesselIn : ℕ → ℕ
 vesselIn n = cond (leb waypointsFrom n && ltb n (waypointsFrom + 10000)) ((n - waypointsFrom) / 1000) 10
-
--- the cards with a point of the variation grid among the first ones
-unfoldable pub pointsTo : List ℕ → ℕ → ℕ
-pointsTo h n = count (λ c. eqb (layoutOf (cardAt h c)) H0101) n

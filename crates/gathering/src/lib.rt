@@ -1,13 +1,14 @@
 // One pass over the cards of a header that gathers every definition in the tally.
+use noting::CARDS;
 use tally::BUCKETS;
 use tally::ROOM;
 ghost use mathlib.Core.Path.{_≡_};
 ghost use Prim.Native.Nat.{_+_, _*_, _<_, _≤_};
 ghost use lib.ListN.{length, getD, set, replicate};
-ghost use Rattle.lists.specs.Count.{bit};
 ghost use Rattle.forms.specs.Cards.{cardsIn, layoutOf};
 ghost use Rattle.tally.specs.Chains.{room, buckets, Linked};
-ghost use Rattle.gathering.specs.Numbers.{tagOn, vesselIn, pointsTo};
+ghost use Rattle.noting.specs.Noted.{Noted};
+ghost use Rattle.gathering.specs.Numbers.{tagOn, vesselIn};
 ghost use Rattle.gathering.specs.Gathered.{onColumn, onSlots, Grown, Gathered, Counted};
 
 // The columns of a card.
@@ -15,9 +16,6 @@ const CARD: usize = 80;
 
 // The most columns of a card that can carry a tie.
 const SLOTS: usize = 5;
-
-// H0101 among the layouts.
-const H0101: usize = 13;
 
 // The numbers of waypoints begin here: seven times those of a class.
 const WAYPOINTS: u64 = 504403158265495552;
@@ -73,7 +71,9 @@ fn gather_card(
     times: &mut [u16; ROOM],
     n: usize,
     card: &[u8],
+    layout: usize,
 ) -> usize
+    requires { ⌜ layout ≡ layoutOf (now card) ⌝ }
     requires { ⌜ n + 5 ≤ room ⌝ }
     requires { ⌜ length (now tags) ≡ room ⌝ }
     requires { ⌜ Linked (now numbers) n (now heads) (now next) (now times) ⌝ }
@@ -81,20 +81,23 @@ fn gather_card(
     ensures grown { λ r. ⌜ Grown (onSlots (now (card .entry)) 5) (now (numbers .entry)) (now (tags .entry)) n
         (now (numbers .exit)) (now (tags .exit)) r (now (heads .exit)) (now (next .exit)) (now (times .exit)) ⌝ }
 {
-    let layout = forms::layout_of(card);
     let mut m = n;
     let mut slot: usize = 0;
     while slot < SLOTS {
         let column = tying::tie_column(layout, slot);
+        if column == 0 {
+            return m;
+        }
         m = gather_column(numbers, tags, heads, next, times, m, card, layout, column);
         slot += 1;
     }
     m
 }
 
-// The definitions of a header, in arrays of zeros.
+// The definitions of a header with its layouts at hand, in arrays of zeros.
 pub fn gather(
     header: &[u8],
+    layouts: &[usize; CARDS],
     numbers: &mut [u64; ROOM],
     tags: &mut [u8; ROOM],
     heads: &mut [u16; BUCKETS],
@@ -102,6 +105,7 @@ pub fn gather(
     times: &mut [u16; ROOM],
 ) -> usize
     requires { ⌜ cardsIn (now header) ≤ 800 ⌝ }
+    requires { ⌜ Noted (now header) (cardsIn (now header)) (now layouts) ⌝ }
     requires { ⌜ now numbers ≡ replicate room 0 ⌝ }
     requires { ⌜ now tags ≡ replicate room 0 ⌝ }
     requires { ⌜ now heads ≡ replicate buckets 0 ⌝ }
@@ -116,7 +120,8 @@ pub fn gather(
     while place < count {
         let from = place * CARD;
         let card = &header[from..from + CARD];
-        n = gather_card(numbers, tags, heads, next, times, n, card);
+        let layout = layouts[place];
+        n = gather_card(numbers, tags, heads, next, times, n, card, layout);
         place += 1;
     }
     n
@@ -155,30 +160,4 @@ pub fn count_waypoints(numbers: &[u64; ROOM], n: usize, waypoints: &mut [usize; 
         count_up(waypoints, vessel_in(numbers[i]));
         i += 1;
     }
-}
-
-fn bit_of(b: bool) -> usize
-    ensures { λ r. ⌜ (r ≡ bit b) × (r ≤ 1) ⌝ }
-{
-    if b {
-        return 1;
-    }
-    0
-}
-
-// How many cards have a point of the variation grid.
-pub fn points_in(header: &[u8]) -> usize
-    ensures { λ r. ⌜ r ≡ pointsTo (now (header .entry)) (cardsIn (now (header .entry))) ⌝ }
-{
-    let count = header.len() / CARD;
-    let mut found: usize = 0;
-    let mut place = 0;
-    while place < count {
-        let from = place * CARD;
-        let card = &header[from..from + CARD];
-        let layout = forms::layout_of(card);
-        found += bit_of(layout == H0101);
-        place += 1;
-    }
-    found
 }

@@ -1,29 +1,25 @@
 -- What each way through the functions that read a card answers.
-use Prim.Native.Nat.{ℕ, zero, suc, _+_, _-_, _≤_, _<_}
+use Prim.Native.Nat.{ℕ, zero, suc, _+_, _-_, _/_, _%_, _≤_, _<_}
 use native.Mathlib.Omega.{arith}
 use native.Mathlib.Numerals.{add-one}
 use mathlib.Core.Path.{_≡_, refl, sym, ap, _∙_}
 use mathlib.Core.List.{List, [], _∷_}
-use mathlib.Core.Bool.{Bool, true, false}
-use lib.Dec.{eqb}
-use lib.IntN.{ℤ, pos, negsuc, natAbs}
+use mathlib.Core.Bool.{Bool, true, false, cond}
+use lib.Dec.{eqb, ltb}
+use lib.IntN.{pos, negsuc}
 use lib.ListN.{length, getD, take, drop, drop-of-length-le, length-drop}
 use lib.Seq.{take-nil, take-all}
-use mir.Syntax.{w64}
-use mir.Val.{SFits}
-use borrow.Author.Tests.{eqb-true}
+use borrow.Author.Tests.{ne-eqb, eqb-true, lt-ltb, le-ltb}
 use Rattle.digits.proofs.Parts.{rest-part}
-use Rattle.signs.specs.Signs.{isMinus}
+use Rattle.digits.specs.declared.Run.{Run}
+use Rattle.digits.specs.Figures.{limit, runOf}
+use Rattle.signs.specs.Signs.{signedOf}
 use Rattle.text.specs.Texts.{textOf}
-use Rattle.number.specs.declared.Decimal.{Decimal as Figure}
-use Rattle.number.specs.declared.Number.{Number}
-use Rattle.number.specs.declared.Number.the-variants.{
-  Absent as NoNumber,
-  Held as Numeral,
-  Malformed as OddNumber,
-  OutOfRange as LargeNumber,
-}
-use Rattle.number.specs.Reading.{numberOf}
+use Rattle.number.specs.declared.Figures.{Figures}
+use Rattle.number.specs.declared.Figures.the-variants.{Units, Not}
+use Rattle.number.specs.declared.Number.the-variants.{Absent as NoNumber, Held as Numeral, OutOfRange as LargeNumber}
+use Rattle.number.specs.Reading.{countedOf, figuresOf, heldOf, numberOf}
+use Rattle.number.proofs.Parsing.{figures-whole, figures-no-point-in-whole}
 use Rattle.spelling.specs.declared.Value.the-variants.{Absent, Whole, Decimal, Angle, Date, Text}
 use Rattle.spelling.specs.declared.Reading.{Reading}
 use Rattle.spelling.specs.declared.Reading.the-variants.{Held, Malformed, OutOfRange}
@@ -31,11 +27,9 @@ use Rattle.spelling.specs.Reading.{wholeReading, readingOf}
 use Rattle.forms.specs.Cards.{byteIn}
 use Rattle.packing.specs.Packing.{isWhole, packed, wholeOffered}
 use Rattle.packing.proofs.Steps.{none-packed, offered-none, offered-whole}
-use Rattle.keys.specs.Roles.{hasVessel}
+use Rattle.keys.specs.Roles.{Source, digit, whole, serial, waypoint, only, nothing, hasVessel}
 use Rattle.keys.specs.Keys.{isNone, between, wholeKey, wholeIn, paired, keyIn}
-use Rattle.keys.specs.Lines.{meant, ofKind, vesselBy, marked, unmarked}
-use Rattle.keys.specs.declared.Source.{Source}
-use Rattle.keys.specs.declared.Source.the-variants as held
+use Rattle.keys.specs.Lines.{classIn, sourceBy, sourceIn, ofKind, vesselBy, marked, markOf, unmarked}
 
 -- columns of a card, from being the one before the first
 module _ (s : List ℕ) (first last from : ℕ) (is : from ≡ first - 1) where
@@ -75,41 +69,57 @@ pub vessel-none : (k : ℕ) (s : List ℕ) (b : Bool) → b ≡ hasVessel k → 
 unfolding vesselBy
 vessel-none k s b e q = rw (← e, q)
 
--- a number that was read
-module _ (n : Number) where
-  pub no-mark : (n ≡ NoNumber → 0 ≡ marked (wholeKey (wholeReading n))) × (n ≡ OddNumber → 0 ≡ marked (wholeKey (wholeReading n)))
-      × (n ≡ LargeNumber → 0 ≡ marked (wholeKey (wholeReading n)))
-  unfolding marked wholeKey wholeReading
-  no-mark = (λ e. rw e, λ e. rw e, λ e. rw e)
+-- digits that fill some columns
+not-a-number : markOf (heldOf false Not) ≡ 0
+unfolding markOf heldOf marked wholeKey wholeReading
+not-a-number = refl
 
-  module _ (d : Figure) (e : n ≡ Numeral d) where
-    pub minus-mark : isMinus (d .units) ≡ true → 0 ≡ marked (wholeKey (wholeReading n))
-    unfolding marked wholeKey wholeReading
-    minus-mark h = rw e (go (d .units) h)
-      where
-        go : (z : ℤ) → isMinus z ≡ true → 0 ≡ marked (wholeKey (Held (Whole z)))
-        go (pos m) q = let x : _≡_ {A = ℕ} 0 1 = cc in absurd (omega arith)
-        go (negsuc m) q = refl
+module _ (t : List ℕ) (r : Run) (e : r ≡ runOf 0 t) (short : r .count ≤ length t) where
+  pub other-bytes : (r .count ≡ length t → ⊥) → 0 ≡ markOf (heldOf false (figuresOf false t))
+  other-bytes h =
+      let q = figures-no-point-in-whole t r e (omega arith) false refl in
+      sym (ap (λ f. markOf (heldOf false f)) (sym q) ∙ not-a-number)
 
-    pub plus-mark : (m : ℕ) → isMinus (d .units) ≡ false → m ≡ natAbs (d .units) → m + 1 ≡ marked (wholeKey (wholeReading n))
-    unfolding marked wholeKey wholeReading
-    plus-mark m h q = rw e (go (d .units) h q)
-      where
-        go : (z : ℤ) → isMinus z ≡ false → m ≡ natAbs z → m + 1 ≡ marked (wholeKey (Held (Whole z)))
-        go (pos j) a p = add-one m ∙ ap suc p
-        go (negsuc j) a p = let x : _≡_ {A = ℕ} 0 1 = cc in absurd (omega arith)
+  pub no-digits : r .count ≡ length t → r .count ≡ 0 → 0 ≡ markOf (heldOf false (figuresOf false t))
+  no-digits h z =
+      let q : Not ≡ figuresOf false t = ap (λ c. countedOf c (r .number) 0) (sym z) ∙ figures-whole t r e false h in
+      sym (ap (λ f. markOf (heldOf false f)) (sym q) ∙ not-a-number)
 
--- its size
-pub size-room : (z : ℤ) → SFits w64 z → (m : ℕ) → m ≡ natAbs z → m ≤ 9223372036854775808
-size-room (pos n) f m q = omega (arith, f .sfits)
-size-room (negsuc n) f m q = omega (arith, f .sfits)
+  units : r .count ≡ length t → (r .count ≡ 0 → ⊥) → Units (r .number) 0 ≡ figuresOf false t
+  units h z =
+      sym (ap (λ b. cond b Not (Units (r .number) 0)) (ne-eqb (r .count) 0 z)) ∙ figures-whole t r e false h
 
-pub whole-marked : (s : List ℕ) (first last : ℕ) (t : List ℕ) (n : Number) (r : ℕ) → t ≡ between first last s
-    → n ≡ numberOf false t
-    → r ≡ marked (wholeKey (wholeReading n)) → r ≡ marked (wholeIn first last s)
-unfolding wholeIn readingOf
-whole-marked s first last t n r e q h =
-    h ∙ ap (λ x. marked (wholeKey (wholeReading x))) (q ∙ ap (numberOf false) e)
+  pub too-large : r .count ≡ length t → (r .count ≡ 0 → ⊥) → limit ≤ r .number
+      → 0 ≡ markOf (heldOf false (figuresOf false t))
+  unfolding markOf heldOf marked wholeKey wholeReading
+  too-large h z l = rw (← units h z, le-ltb (r .number) limit l)
+
+  pub a-whole : r .count ≡ length t → (r .count ≡ 0 → ⊥) → r .number < limit
+      → r .number + 1 ≡ markOf (heldOf false (figuresOf false t))
+  unfolding markOf heldOf marked wholeKey wholeReading signedOf
+  a-whole h z l = rw (← units h z, lt-ltb (r .number) limit l) (add-one (r .number))
+
+-- behind a minus there is no key but 0
+pub behind-minus : (f : Figures) → cond (eqb (markOf (heldOf false f)) 1) 1 0 ≡ markOf (heldOf true f)
+unfolding markOf heldOf marked wholeKey wholeReading signedOf
+behind-minus Not = refl
+behind-minus (Units n p) = go (ltb n limit) n
+  where
+    go : (b : Bool) (n : ℕ)
+        → cond (eqb (markOf (cond b (Numeral (record { units = signedOf false n; places = p })) LargeNumber)) 1) 1 0
+        ≡ markOf (cond b (Numeral (record { units = signedOf true n; places = p })) LargeNumber)
+    go true zero = refl
+    go true (suc n) = rw (ne-eqb (suc (suc n)) 1 (λ q. omega arith))
+    go false n = refl
+
+pub no-number-there : markOf NoNumber ≡ 0
+unfolding markOf marked wholeKey wholeReading
+no-number-there = refl
+
+pub whole-marked : (s : List ℕ) (first last : ℕ) (t : List ℕ) (r : ℕ) → t ≡ between first last s → r ≡ markOf (numberOf false t)
+    → r ≡ marked (wholeIn first last s)
+unfolding wholeIn readingOf markOf
+whole-marked s first last t r e h = h ∙ ap (λ x. markOf (numberOf false x)) e
 
 -- a mark tells the number
 pub mark-tells : (r : Reading) → wholeKey r ≡ unmarked (marked (wholeKey r))
@@ -159,44 +169,73 @@ pub both-there : (a b : List ℕ) (m n r : ℕ) → a ≡ m ∷ [] → b ≡ n �
 unfolding paired isNone
 both-there a b m n r p q h = rw (p, q) h
 
+-- how a line finds its key
+module _ (line : ℕ) where
+  abbrev how : ℕ
+  how = line / 16 % 8
+
+  pub is-digit : how ≡ 1 → sourceIn line ≡ digit
+  unfolding sourceIn sourceBy
+  is-digit e = rw e
+
+  pub is-whole : how ≡ 2 → sourceIn line ≡ whole (line / 128 % 128) (line / 16384)
+  unfolding sourceIn sourceBy
+  is-whole e = rw e
+
+  pub is-serial : how ≡ 3 → sourceIn line ≡ serial (line / 128 % 128) (line / 16384)
+  unfolding sourceIn sourceBy
+  is-serial e = rw e
+
+  pub is-waypoint : how ≡ 4 → sourceIn line ≡ waypoint (line / 128 % 128) (line / 16384)
+  unfolding sourceIn sourceBy
+  is-waypoint e = rw e
+
+  pub is-only : how ≡ 5 → sourceIn line ≡ only
+  unfolding sourceIn sourceBy
+  is-only e = rw e
+
+  pub is-nothing : (how ≡ 1 → ⊥) → (how ≡ 2 → ⊥) → (how ≡ 3 → ⊥) → (how ≡ 4 → ⊥) → (how ≡ 5 → ⊥) → sourceIn line ≡ nothing
+  unfolding sourceIn sourceBy
+  is-nothing a b c d e = rw (ne-eqb how 1 a, ne-eqb how 2 b, ne-eqb how 3 c, ne-eqb how 4 d, ne-eqb how 5 e)
+
 -- the key that a line finds, by where it stands
-module _ (class : ℕ) (src : Source) (s : List ℕ) (fits : ofKind class (meant src) ≡ true) (r : ℕ) where
-  pub by-digit : src ≡ held.Digit → (n : ℕ) → n ≡ byteIn s 5 - 48 → r ≡ packed class (wholeOffered class (n ∷ []))
-      → r ≡ packed class (keyIn (meant src) s)
-  unfolding ofKind meant keyIn
+module _ (class : ℕ) (src : Source) (s : List ℕ) (fits : ofKind class src ≡ true) (r : ℕ) where
+  pub by-digit : src ≡ digit → (n : ℕ) → n ≡ byteIn s 5 - 48 → r ≡ packed class (wholeOffered class (n ∷ []))
+      → r ≡ packed class (keyIn src s)
+  unfolding ofKind keyIn
   by-digit e n q h =
       let w : isWhole class ≡ true = rw e at fits in
       rw (e, ← q) (h ∙ ap (packed class) (offered-whole class w (n ∷ [])))
 
-  pub by-whole : (first last : ℕ) → src ≡ held.Whole first last → r ≡ packed class (wholeOffered class (wholeIn first last s))
-      → r ≡ packed class (keyIn (meant src) s)
-  unfolding ofKind meant keyIn
+  pub by-whole : (first last : ℕ) → src ≡ whole first last → r ≡ packed class (wholeOffered class (wholeIn first last s))
+      → r ≡ packed class (keyIn src s)
+  unfolding ofKind keyIn
   by-whole first last e h =
       let w : isWhole class ≡ true = rw e at fits in
       rw e (h ∙ ap (packed class) (offered-whole class w (wholeIn first last s)))
 
-  pub by-serial : (first last : ℕ) → src ≡ held.Serial first last → (t : List ℕ) → t ≡ between first last s
+  pub by-serial : (first last : ℕ) → src ≡ serial first last → (t : List ℕ) → t ≡ between first last s
       → r ≡ packed 4 (textOf t)
-      → r ≡ packed class (keyIn (meant src) s)
-  unfolding ofKind meant keyIn
+      → r ≡ packed class (keyIn src s)
+  unfolding ofKind keyIn
   by-serial first last e t q h =
       let w : eqb class 4 ≡ true = rw e at fits in
       rw (e, eqb-true class 4 w, ← q) h
 
-  pub by-waypoint : (first last : ℕ) → src ≡ held.Waypoint first last
+  pub by-waypoint : (first last : ℕ) → src ≡ waypoint first last
       → r ≡ packed 7 (paired (wholeIn 7 7 s) (wholeIn first last s))
-      → r ≡ packed class (keyIn (meant src) s)
-  unfolding ofKind meant keyIn
+      → r ≡ packed class (keyIn src s)
+  unfolding ofKind keyIn
   by-waypoint first last e h =
       let w : eqb class 7 ≡ true = rw e at fits in
       rw (e, eqb-true class 7 w) h
 
-  pub by-only : src ≡ held.Only → r ≡ packed class (wholeOffered class (0 ∷ [])) → r ≡ packed class (keyIn (meant src) s)
-  unfolding ofKind meant keyIn
+  pub by-only : src ≡ only → r ≡ packed class (wholeOffered class (0 ∷ [])) → r ≡ packed class (keyIn src s)
+  unfolding ofKind keyIn
   by-only e h =
       let w : isWhole class ≡ true = rw e at fits in
       rw e (h ∙ ap (packed class) (offered-whole class w (0 ∷ [])))
 
-  pub by-nothing : src ≡ held.Nothing → 0 ≡ packed class (keyIn (meant src) s)
-  unfolding meant keyIn
+  pub by-nothing : src ≡ nothing → 0 ≡ packed class (keyIn src s)
+  unfolding keyIn
   by-nothing e = rw e (sym (none-packed class))

@@ -1,10 +1,11 @@
 -- The line that the code's choices find: those of a layout, one after the other by their columns.
-use Prim.Native.Nat.{ℕ}
+use Prim.Native.Nat.{ℕ, _/_, _%_, _<_}
+use native.Mathlib.Omega.{arith}
 use mathlib.Core.Path.{_≡_, refl, sym, ap, _∙_}
 use mathlib.Core.List.{List, [], _∷_}
 use mathlib.Core.Bool.{Bool, true, false, cond, _&&_}
-use lib.Dec.{eqb}
-use borrow.Author.Tests.{ne-eqb}
+use lib.Dec.{eqb, ltb}
+use borrow.Author.Tests.{ne-eqb, ltb-true}
 use Rattle.digits.proofs.Bools.{and-left, and-right}
 use Rattle.lists.specs.Parts.{keep, kept}
 use Rattle.keys.specs.Roles.{
@@ -39,15 +40,14 @@ use Rattle.keys.specs.Roles.{
 }
 use Rattle.packing.specs.Packing.{isWhole, packed}
 use Rattle.keys.specs.Keys.{keyIn}
-use Rattle.keys.specs.Lines.{heldAs, meant, lineOf, chosen, ofKind, packedBy}
-use Rattle.keys.specs.declared.Line.{Line}
+use Rattle.keys.specs.Lines.{coded, codeOf, lineOf, classIn, sourceBy, sourceIn, chosen, ofKind, packedBy}
 
 -- a line is about a role in a layout
 unfoldable pub ofLayout : Role → ℕ → Tie → Bool
 ofLayout r k t = sameRole (t .role) r && eqb (t .layout) k
 
 -- the choice among lines by their columns
-unfoldable pub choices : List Tie → ℕ → Line
+unfoldable pub choices : List Tie → ℕ → ℕ
 choices [] column = lineOf noTie
 choices (t ∷ ts) column = chosen (t .column) column (lineOf t) (choices ts column)
 
@@ -71,7 +71,7 @@ module _ (r : Role) (k column : ℕ) where
   chosen-line j q = rw (← q) (among ties)
 
 -- no other layout has lines
-module _ (k column : ℕ) (l : Line) (is : l ≡ lineOf noTie) where
+module _ (k column l : ℕ) (is : l ≡ lineOf noTie) where
   pub none-defines : (k ≡ H00X8 → ⊥) → (k ≡ H00X9 → ⊥) → (k ≡ H0100 → ⊥) → (k ≡ H0101 → ⊥) → (k ≡ H011X → ⊥)
       → (k ≡ H17X0 → ⊥) → (k ≡ H21X0 → ⊥) → (k ≡ H22X0 → ⊥) → l ≡ lineOf (lineFor defines k column)
   unfolding lineFor lineIn ties
@@ -99,16 +99,6 @@ module _ (k column : ℕ) (l : Line) (is : l ≡ lineOf noTie) where
     ne-eqb H23X0 k (λ q. g (sym q)),
   ) is
 
--- back and forth
-pub meant-held : (s : Source) → meant (heldAs s) ≡ s
-unfolding meant heldAs
-meant-held digit = refl
-meant-held (whole first last) = refl
-meant-held (serial first last) = refl
-meant-held (waypoint first last) = refl
-meant-held only = refl
-meant-held nothing = refl
-
 -- a rule of every line of the table, and of none, is one of the line that is found
 abbrev pub every : (Tie → Bool) → List Tie → Bool
 every f [] = true
@@ -134,16 +124,69 @@ pub line-of-kind : (r : Role) (k column : ℕ) → ofKind (lineFor r k column .c
 unfolding ties ofKind isWhole
 line-of-kind r k column = rule (λ t. ofKind (t .class) (t .source)) refl r k column refl
 
--- so does the line that the code found
-pub found-of-kind : (l : Line) (r : Role) (k column : ℕ) → l ≡ lineOf (lineFor r k column)
-    → ofKind (l .class) (meant (l .source)) ≡ true
-unfolding lineOf
-found-of-kind l r k column e = rw (e, meant-held (lineFor r k column .source)) (line-of-kind r k column)
+-- a class, and the first column of a key, that a line's number has room for
+abbrev firstOf : Source → ℕ
+firstOf digit = 0
+firstOf (whole first last) = first
+firstOf (serial first last) = first
+firstOf (waypoint first last) = first
+firstOf only = 0
+firstOf nothing = 0
 
--- and it finds the key
-pub found-key : (l : Line) (r : Role) (k column : ℕ) (s : List ℕ) (n : ℕ) → l ≡ lineOf (lineFor r k column)
-    → n ≡ packed (l .class) (keyIn (meant (l .source)) s) → n ≡ packedBy r k s column
-unfolding lineOf packedBy
-found-key l r k column s n e h =
-    h ∙ ap (λ (m : Line). packed (m .class) (keyIn (meant (m .source)) s)) e
-    ∙ ap (λ x. packed (lineFor r k column .class) (keyIn x s)) (meant-held (lineFor r k column .source))
+-- a line's number tells its class and its source
+module _ (class : ℕ) (low : class < 16) where
+  class-told : (s : Source) → firstOf s < 128 → classIn (codeOf class s) ≡ class
+  unfolding classIn codeOf
+  class-told digit h = omega arith
+  class-told (whole first last) h = omega arith
+  class-told (serial first last) h = omega arith
+  class-told (waypoint first last) h = omega arith
+  class-told only h = omega arith
+  class-told nothing h = omega arith
+
+  by-parts : (how first last : ℕ) → how < 8 → first < 128 → sourceIn (coded class how first last) ≡ sourceBy how first last
+  unfolding sourceIn
+  by-parts how first last h k =
+      let n = coded class how first last in
+      let a : n / 16 % 8 ≡ how = omega arith in
+      let b : n / 128 % 128 ≡ first = omega arith in
+      let d : n / 16384 ≡ last = omega arith in
+      rw (a, b, d)
+
+  source-told : (s : Source) → firstOf s < 128 → sourceIn (codeOf class s) ≡ s
+  unfolding codeOf sourceBy
+  source-told digit h = by-parts 1 0 0 (omega arith) h
+  source-told (whole first last) h = by-parts 2 first last (omega arith) h
+  source-told (serial first last) h = by-parts 3 first last (omega arith) h
+  source-told (waypoint first last) h = by-parts 4 first last (omega arith) h
+  source-told only h = by-parts 5 0 0 (omega arith) h
+  source-told nothing h = by-parts 0 0 0 (omega arith) h
+
+module _ (r : Role) (k column : ℕ) where
+  line-small : (ltb (lineFor r k column .class) 16 && ltb (firstOf (lineFor r k column .source)) 128) ≡ true
+  unfolding ties
+  line-small = rule (λ t. ltb (t .class) 16 && ltb (firstOf (t .source)) 128) refl r k column refl
+
+  low-class : lineFor r k column .class < 16
+  low-class = ltb-true (lineFor r k column .class) 16 (and-left _ _ line-small)
+
+  low-column : firstOf (lineFor r k column .source) < 128
+  low-column = ltb-true (firstOf (lineFor r k column .source)) 128 (and-right (ltb (lineFor r k column .class) 16) _ line-small)
+
+  module _ (l : ℕ) (e : l ≡ lineOf (lineFor r k column)) where
+    found-class : classIn l ≡ lineFor r k column .class
+    unfolding lineOf
+    found-class = rw e (class-told (lineFor r k column .class) low-class (lineFor r k column .source) low-column)
+
+    found-source : sourceIn l ≡ lineFor r k column .source
+    unfolding lineOf
+    found-source = rw e (source-told (lineFor r k column .class) low-class (lineFor r k column .source) low-column)
+
+    -- so does the line that the code found
+    pub found-of-kind : ofKind (classIn l) (sourceIn l) ≡ true
+    found-of-kind = rw (found-class, found-source) (line-of-kind r k column)
+
+    -- and it finds the key
+    pub found-key : (s : List ℕ) (n : ℕ) → n ≡ packed (classIn l) (keyIn (sourceIn l) s) → n ≡ packedBy r k s column
+    unfolding packedBy
+    found-key s n h = h ∙ rw (found-class, found-source)

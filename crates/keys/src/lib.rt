@@ -1,14 +1,14 @@
 // The keys on one card: what its columns define and what they refer to, each key as one number.
-use number::Number;
 ghost use mathlib.Core.Path.{_≡_};
-ghost use mathlib.Core.Bool.{true};
+ghost use mathlib.Core.Bool.{true, false, cond};
 ghost use Prim.Native.Nat.{_-_};
-ghost use Rattle.spelling.specs.Reading.{wholeReading};
+ghost use lib.Dec.{eqb};
+ghost use Rattle.number.specs.Reading.{figuresOf, heldOf, numberOf};
 ghost use Rattle.forms.specs.Cards.{byteIn};
 ghost use Rattle.packing.specs.Packing.{packed, wholeOffered};
 ghost use Rattle.keys.specs.Roles.{defines, refers, lineFor, hasVessel};
-ghost use Rattle.keys.specs.Keys.{between, wholeKey, wholeIn, paired, keyIn};
-ghost use Rattle.keys.specs.Lines.{meant, lineOf, chosen, ofKind, packedBy, vesselBy, marked};
+ghost use Rattle.keys.specs.Keys.{between, wholeIn, paired, keyIn};
+ghost use Rattle.keys.specs.Lines.{lineOf, classIn, sourceIn, chosen, ofKind, packedBy, vesselBy, marked, markOf};
 
 // The codes by the numbers of their layouts; X stands for the digit of a vessel or datum.
 const H00X8: usize = 8;
@@ -41,81 +41,117 @@ const H23X0: usize = 24;
 
 const ZERO: u8 = 48;
 
+const PLUS: u8 = 43;
+
+const MINUS: u8 = 45;
+
 // Stands for a code that has no vessel digit.
 const NO_VESSEL: usize = 10;
 
-// Where a key stands on a card: the last digit of the code; a whole number or a text in some columns; a whole number behind
-// the vessel in column 7; the one key 0, which stands nowhere; no key.
-pub enum Source {
-    Digit,
-    Whole(usize, usize),
-    Serial(usize, usize),
-    Waypoint(usize, usize),
-    Only,
-    Nothing,
-}
+// What a column does is one number: a class below 16, how its key is found, and the first and last column of the key.
+const HOW: usize = 16;
 
-// What a column does: for which class, and with which key.
-pub struct Line {
-    pub class: u64,
-    pub source: Source,
-}
+const FIRST: usize = 128;
 
-const NO_LINE: Line = Line {
-    class: 0,
-    source: Source::Nothing,
-};
+const LAST: usize = 16384;
+
+// How a key is found: it is the last digit of the code; a whole number or a text in some columns; a whole number behind the
+// vessel in column 7; the one key 0, which stands nowhere.
+const DIGIT: usize = 1;
+
+const WHOLE: usize = 2;
+
+const SERIAL: usize = 3;
+
+const WAYPOINT: usize = 4;
+
+const ONLY: usize = 5;
+
+// The lines of the table.
+const DATUM: usize = 1 + DIGIT * HOW;
+
+const FIRST_DATUM: usize = 1 + WHOLE * HOW + 7 * FIRST + 7 * LAST;
+
+const SECOND_DATUM: usize = 1 + WHOLE * HOW + 9 * FIRST + 9 * LAST;
+
+const STREAMER: usize = 2 + WHOLE * HOW + 7 * FIRST + 9 * LAST;
+
+const FIRST_NODE: usize = 3 + WHOLE * HOW + 11 * FIRST + 14 * LAST;
+
+const SECOND_NODE: usize = 3 + WHOLE * HOW + 36 * FIRST + 39 * LAST;
+
+const FIRST_SERIAL: usize = 4 + SERIAL * HOW + 16 * FIRST + 23 * LAST;
+
+const SECOND_SERIAL: usize = 4 + SERIAL * HOW + 41 * FIRST + 48 * LAST;
+
+const COMPASS: usize = 4 + SERIAL * HOW + 7 * FIRST + 14 * LAST;
+
+const SENSOR: usize = 5 + WHOLE * HOW + 7 * FIRST + 7 * LAST;
+
+const VESSEL: usize = 6 + WHOLE * HOW + 30 * FIRST + 30 * LAST;
+
+const LINE_VESSEL: usize = 6 + WHOLE * HOW + 7 * FIRST + 7 * LAST;
+
+const FIRST_WAYPOINT: usize = 7 + WAYPOINT * HOW + 9 * FIRST + 11 * LAST;
+
+const SECOND_WAYPOINT: usize = 7 + WAYPOINT * HOW + 39 * FIRST + 41 * LAST;
+
+const POINT: usize = 8 + WHOLE * HOW + 7 * FIRST + 10 * LAST;
+
+const GRID: usize = 9 + ONLY * HOW;
+
+const NO_LINE: usize = 0;
 
 // A line where the column is its own, another elsewhere.
-fn choose(own: usize, column: usize, class: u64, source: Source, other: Line) -> Line
-    ensures { λ r. ⌜ r ≡ chosen own column (record { class = class; source = source }) other ⌝ }
+fn choose(own: usize, column: usize, line: usize, other: usize) -> usize
+    ensures { λ r. ⌜ r ≡ chosen own column line other ⌝ }
 {
     if own == column {
-        return Line { class, source };
+        return line;
     }
     other
 }
 
 // What a column of a layout defines.
-fn defining(layout: usize, column: usize) -> Line
+fn defining(layout: usize, column: usize) -> usize
     ensures { λ r. ⌜ r ≡ lineOf (lineFor defines layout column) ⌝ }
 {
     match layout {
-        H00X8 => choose(30, column, 6, Source::Whole(30, 30), NO_LINE),
+        H00X8 => choose(30, column, VESSEL, NO_LINE),
         H00X9 => {
-            let second = choose(39, column, 7, Source::Waypoint(39, 41), NO_LINE);
-            choose(9, column, 7, Source::Waypoint(9, 11), second)
+            let second = choose(39, column, SECOND_WAYPOINT, NO_LINE);
+            choose(9, column, FIRST_WAYPOINT, second)
         }
-        H0100 => choose(7, column, 9, Source::Only, NO_LINE),
-        H0101 => choose(7, column, 8, Source::Whole(7, 10), NO_LINE),
-        H011X => choose(5, column, 1, Source::Digit, NO_LINE),
-        H17X0 => choose(7, column, 5, Source::Whole(7, 7), NO_LINE),
-        H21X0 => choose(7, column, 2, Source::Whole(7, 9), NO_LINE),
+        H0100 => choose(7, column, GRID, NO_LINE),
+        H0101 => choose(7, column, POINT, NO_LINE),
+        H011X => choose(5, column, DATUM, NO_LINE),
+        H17X0 => choose(7, column, SENSOR, NO_LINE),
+        H21X0 => choose(7, column, STREAMER, NO_LINE),
         H22X0 => {
-            let serial = choose(41, column, 4, Source::Serial(41, 48), NO_LINE);
-            let first = choose(16, column, 4, Source::Serial(16, 23), serial);
-            let node = choose(36, column, 3, Source::Whole(36, 39), first);
-            choose(11, column, 3, Source::Whole(11, 14), node)
+            let serial = choose(41, column, SECOND_SERIAL, NO_LINE);
+            let first = choose(16, column, FIRST_SERIAL, serial);
+            let node = choose(36, column, SECOND_NODE, first);
+            choose(11, column, FIRST_NODE, node)
         }
         _ => NO_LINE,
     }
 }
 
 // What a column of a layout refers to.
-fn referring(layout: usize, column: usize) -> Line
+fn referring(layout: usize, column: usize) -> usize
     ensures { λ r. ⌜ r ≡ lineOf (lineFor refers layout column) ⌝ }
 {
     match layout {
-        H00X9 => choose(7, column, 6, Source::Whole(7, 7), NO_LINE),
-        H0101 => choose(7, column, 9, Source::Only, NO_LINE),
+        H00X9 => choose(7, column, LINE_VESSEL, NO_LINE),
+        H0101 => choose(7, column, GRID, NO_LINE),
         H0120 => {
-            let second = choose(9, column, 1, Source::Whole(9, 9), NO_LINE);
-            choose(7, column, 1, Source::Whole(7, 7), second)
+            let second = choose(9, column, SECOND_DATUM, NO_LINE);
+            choose(7, column, FIRST_DATUM, second)
         }
-        H17X1 => choose(7, column, 5, Source::Whole(7, 7), NO_LINE),
-        H21X1 => choose(7, column, 2, Source::Whole(7, 9), NO_LINE),
-        H22X0 => choose(7, column, 2, Source::Whole(7, 9), NO_LINE),
-        H23X0 => choose(7, column, 4, Source::Serial(7, 14), NO_LINE),
+        H17X1 => choose(7, column, SENSOR, NO_LINE),
+        H21X1 => choose(7, column, STREAMER, NO_LINE),
+        H22X0 => choose(7, column, STREAMER, NO_LINE),
+        H23X0 => choose(7, column, COMPASS, NO_LINE),
         _ => NO_LINE,
     }
 }
@@ -146,29 +182,58 @@ fn columns(card: &[u8], first: usize, last: usize) -> &[u8]
     &card[from..last]
 }
 
-// A number that was read, if it is one, counted from 1; 0 stands for none.
-fn mark(number: Number) -> u64
-    ensures { λ r. ⌜ r ≡ marked (wholeKey (wholeReading number)) ⌝ }
+// Of numbers counted from 1 the one that a minus may stand before.
+fn nought(mark: u64) -> u64
+    ensures { λ r. ⌜ r ≡ cond (eqb mark 1) 1 0 ⌝ }
 {
-    match number {
-        Number::Held(d) => {
-            let units = d.units;
-            if signs::below_zero(units) {
-                return 0;
-            }
-            signs::magnitude(units) + 1
-        }
-        Number::Absent => 0,
-        Number::Malformed => 0,
-        Number::OutOfRange => 0,
+    if mark == 1 {
+        return 1;
     }
+    0
+}
+
+// The number that the digits in t make, counted from 1; 0 where there are none, or other bytes.
+fn plain(t: &[u8]) -> u64
+    ensures { λ r. ⌜ r ≡ markOf (heldOf false (figuresOf false (now (t .entry)))) ⌝ }
+{
+    let run = digits::read_run(t, 0);
+    let count = run.count;
+    let number = run.number;
+    if count != t.len() {
+        return 0;
+    }
+    if count == 0 {
+        return 0;
+    }
+    if digits::LIMIT <= number {
+        return 0;
+    }
+    number + 1
+}
+
+// The whole number that stands right adjusted in s, in the same way. Below zero there is no key.
+fn signed(s: &[u8]) -> u64
+    ensures { λ r. ⌜ r ≡ markOf (numberOf false (now (s .entry))) ⌝ }
+{
+    let at = digits::padding(s);
+    if at == s.len() {
+        return 0;
+    }
+    let b = s[at];
+    if b == MINUS {
+        return nought(plain(&s[at + 1..]));
+    }
+    if b == PLUS {
+        return plain(&s[at + 1..]);
+    }
+    plain(&s[at..])
 }
 
 // The whole number in some columns, counted from 1; 0 where there is none.
 pub fn whole_in(card: &[u8], first: usize, last: usize) -> u64
     ensures { λ r. ⌜ r ≡ marked (wholeIn first last (now (card .entry))) ⌝ }
 {
-    mark(number::read_number(columns(card, first, last), false))
+    signed(columns(card, first, last))
 }
 
 // The digit in a column.
@@ -231,19 +296,21 @@ fn pair_key(card: &[u8], first: usize, last: usize) -> u64
 }
 
 // The key that a line finds on a card.
-fn key_by(card: &[u8], line: Line) -> u64
-    requires { ⌜ ofKind (line .class) (meant (line .source)) ≡ true ⌝ }
-    ensures { λ r. ⌜ r ≡ packed (line .class) (keyIn (meant (line .source)) (now (card .entry))) ⌝ }
+fn key_by(card: &[u8], line: usize) -> u64
+    requires { ⌜ ofKind (classIn line) (sourceIn line) ≡ true ⌝ }
+    ensures { λ r. ⌜ r ≡ packed (classIn line) (keyIn (sourceIn line) (now (card .entry))) ⌝ }
 {
-    let class = line.class;
-    let source = line.source;
-    match source {
-        Source::Digit => packing::packed_number(class, digit_in(card, 5) as u64),
-        Source::Whole(first, last) => number_key(card, class, first, last),
-        Source::Serial(first, last) => packing::packed_columns(columns(card, first, last)),
-        Source::Waypoint(first, last) => pair_key(card, first, last),
-        Source::Only => packing::packed_number(class, 0),
-        Source::Nothing => packing::NONE,
+    let class = (line % HOW) as u64;
+    let how = line / HOW % 8;
+    let first = line / FIRST % 128;
+    let last = line / LAST;
+    match how {
+        DIGIT => packing::packed_number(class, digit_in(card, 5) as u64),
+        WHOLE => number_key(card, class, first, last),
+        SERIAL => packing::packed_columns(columns(card, first, last)),
+        WAYPOINT => pair_key(card, first, last),
+        ONLY => packing::packed_number(class, 0),
+        _ => packing::NONE,
     }
 }
 

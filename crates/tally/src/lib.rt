@@ -53,7 +53,13 @@ fn at(array: &[u16; ROOM], i: usize) -> usize
 }
 
 // The last of n entries that has a key, named as in a chain; 0 where none has.
-fn find(keys: &[u64; ROOM], heads: &[u16; BUCKETS], next: &[u16; ROOM], n: usize, key: u64) -> usize
+pub fn find(
+    keys: &[u64; ROOM],
+    heads: &[u16; BUCKETS],
+    next: &[u16; ROOM],
+    n: usize,
+    key: u64,
+) -> usize
     requires { ⌜ ((times : List ℕ) × Linked (now keys) n (now heads) (now next) times) ⌝ }
     ensures { λ r. ⌜ r ≡ last (holds (now (keys .entry)) key) n ⌝ }
 {
@@ -67,8 +73,28 @@ fn find(keys: &[u64; ROOM], heads: &[u16; BUCKETS], next: &[u16; ROOM], n: usize
     0
 }
 
+// How many of n entries have the key for which a link was found.
+pub fn count_by(
+    keys: &[u64; ROOM],
+    heads: &[u16; BUCKETS],
+    next: &[u16; ROOM],
+    times: &[u16; ROOM],
+    n: usize,
+    key: u64,
+    link: usize,
+) -> usize
+    requires { ⌜ link ≡ last (holds (now keys) key) n ⌝ }
+    requires { ⌜ Linked (now keys) n (now heads) (now next) (now times) ⌝ }
+    ensures { λ r. ⌜ r ≡ count (holds (now (keys .entry)) key) n ⌝ }
+{
+    if link == 0 {
+        return 0;
+    }
+    at(times, link - 1)
+}
+
 // How many of n entries have a key.
-pub fn count_of(
+fn count_of(
     keys: &[u64; ROOM],
     heads: &[u16; BUCKETS],
     next: &[u16; ROOM],
@@ -80,14 +106,11 @@ pub fn count_of(
     ensures { λ r. ⌜ r ≡ count (holds (now (keys .entry)) key) n ⌝ }
 {
     let link = find(keys, heads, next, n, key);
-    if link == 0 {
-        return 0;
-    }
-    at(times, link - 1)
+    count_by(keys, heads, next, times, n, key, link)
 }
 
-// The tag of the only one of n entries that has a key, NO_TAG where there is not exactly one.
-pub fn only_tag(
+// The tag of the only one of n entries that has the key, NO_TAG where there is not exactly one.
+pub fn tag_by(
     keys: &[u64; ROOM],
     tags: &[u8; ROOM],
     heads: &[u16; BUCKETS],
@@ -95,11 +118,12 @@ pub fn only_tag(
     times: &[u16; ROOM],
     n: usize,
     key: u64,
+    link: usize,
 ) -> u8
+    requires { ⌜ link ≡ last (holds (now keys) key) n ⌝ }
     requires { ⌜ Linked (now keys) n (now heads) (now next) (now times) ⌝ }
     ensures { λ r. ⌜ r ≡ onlyTag (now (keys .entry)) (now (tags .entry)) key n ⌝ }
 {
-    let link = find(keys, heads, next, n, key);
     if link == 0 {
         return NO_TAG;
     }

@@ -5,9 +5,9 @@ use native.Mathlib.Decide.{decLt}
 use mathlib.Core.Path.{_≡_, refl, sym, ap, _∙_}
 use mathlib.Core.Bool.{Bool, true, false, true≢false, cond, _&&_, _||_}
 use mathlib.Core.List.{List, [], _∷_, _++_, map, List·Memᴰ, List·Memᴰ·head, List·Memᴰ·tail}
-use lib.Dec.{eqb, leb}
+use lib.Dec.{eqb, leb, ltb}
 use lib.ListN.{length, getD, replicate, List·getD-eq-default}
-use borrow.Author.Tests.{ne-eqb, leb-true}
+use borrow.Author.Tests.{ne-eqb, leb-true, lt-leb, ltb-true}
 use Rattle.digits.proofs.Bools.{and-left, and-right}
 use Rattle.lists.specs.Parts.{kept, upTo, Rising}
 use Rattle.lists.proofs.Keeping.{into-kept, into-upTo}
@@ -152,6 +152,27 @@ of-columns f h none k = elim (decLt k 26) [
 pub at-most-five : (k : ℕ) → length (tieColumns k) ≤ 5
 unfolding tieColumns kept upTo canTie about ties statesCount statesOwn
 at-most-five k = leb-true (length (tieColumns k)) 5 (of-columns (λ l. leb (length l) 5) refl refl k)
+
+-- every column of a layout is one
+abbrev numbered : List ℕ → Bool
+numbered l = below (λ i. leb (length l) i || ltb 0 (getD l i 0)) 5
+
+all-numbered : (k : ℕ) → numbered (tieColumns k) ≡ true
+unfolding tieColumns kept upTo canTie about ties statesCount statesOwn
+all-numbered k = of-columns numbered refl refl k
+
+some-column : (k slot : ℕ) → slot < length (tieColumns k) → 0 < getD (tieColumns k) slot 0
+some-column k slot l =
+    let h = at-below (λ i. leb (length (tieColumns k)) i || ltb 0 (getD (tieColumns k) i 0)) 5 (all-numbered k) slot
+    (omega (arith, at-most-five k)) in
+    ltb-true 0 (getD (tieColumns k) slot 0) (rw (lt-leb (length (tieColumns k)) slot l) at h)
+
+-- where a slot has no column, those behind it have none
+pub none-behind : (k slot : ℕ) → getD (tieColumns k) slot 0 ≡ 0 → (i : ℕ) → slot ≤ i → getD (tieColumns k) i 0 ≡ 0
+none-behind k slot e i l = elim (decLt slot (length (tieColumns k))) [
+  | yes m ↦ absurd (omega (arith, some-column k slot m, e))
+  | no m ↦ List·getD-eq-default (tieColumns k) 0 {n = i} (omega arith)
+]
 
 -- they rise
 pub columns-rise : (k : ℕ) → Rising (λ (c : ℕ). c) (tieColumns k)

@@ -14,23 +14,29 @@ defined-by-requires c κs = search needs
 tag-of-requires : tie.Need-tag-of-requires
 tag-of-requires c κs = search needs
 
+find-number-requires : tie.Need-find-number-requires
+find-number-requires c κs = (_, c .before .before .before .before .before .pre .1 .1 .gathered .linked)
+
+find-number-requires-2 : tie.Need-find-number-requires-2
+find-number-requires-2 c κs = (_, c .before .before .before .before .before .before .pre .1 .1 .gathered .linked)
+
 times-defined-requires : tie.Need-times-defined-requires
-times-defined-requires c κs = search needs
+times-defined-requires c κs = (c .before .find-number .ensures, c .before .before .before .before .before .before .before .pre .1 .1 .gathered)
 
 times-defined-requires-2 : tie.Need-times-defined-requires-2
-times-defined-requires-2 c κs = search needs
+times-defined-requires-2 c κs =
+    (c .before .find-number2 .ensures, c .before .before .before .before .before .before .before .before .pre .1 .1 .gathered)
 
 only-apart-requires : tie.Need-only-apart-requires
-only-apart-requires c κs = search needs
+only-apart-requires c κs =
+    (c .before .before .before .find-number .ensures, c .before .before .before .before .before .before .before .before .before .pre .1 .1 .gathered)
 
 contradicts-requires : tie.Need-contradicts-requires
-contradicts-requires c κs = search needs
+contradicts-requires c κs = c .before .before .before .before .before .before .before .before .before .before .pre .0
 
 miscounts-requires : tie.Need-miscounts-requires
 miscounts-requires c κs =
-    let t = c .before .before .before in
-    let d = t .before .before in
-    let s = d .before .before .before .before in
+    let s = c .before .before .before .before .before .before .before .before .before .before .before in
     let r = s .pre .1 .1 in
     (s .pre .0, (r .counted .bins, (counts-small _ _ _ _ _ _ _ _ _ r, points-small _ _ _ _ _ _ _ _ _ r)))
 
@@ -40,7 +46,7 @@ returns c =
     let a = k .before in
     let e = a .before in
     let t = e .before in
-    let v = t .before in
+    let v = t .before .before .before in
     let d = v .before in
     let f = d .before in
     let s = f .before .before .before in
@@ -55,6 +61,8 @@ judge-column-spec =
     referred-by-requires
     defined-by-requires
     tag-of-requires
+    find-number-requires
+    find-number-requires-2
     times-defined-requires
     times-defined-requires-2
     only-apart-requires

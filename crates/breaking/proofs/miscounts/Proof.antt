@@ -2,7 +2,7 @@
 use denote.Ref.{now}
 use native.Mathlib.Omega.{arith}
 use Rattle.keys.specs.Lines.{unmarked}
-use Rattle.breaking.proofs.Stated.{of-line, of-grid, count-small}
+use Rattle.breaking.proofs.Stated.{of-line, of-grid, of-none, count-small}
 use borrow.Author.Needs.{needs}
 use Rattle.breaking.proofs.miscounts.Statement.{statement}
 use Rattle.breaking.proofs.miscounts.Tie as tie
@@ -40,9 +40,16 @@ differs-requires-2 c κs = search needs
 returns-2 : tie.Need-returns-2
 returns-2 c =
     let m = c .before in
-    let s = m .before .before .before in
+    let g = m .before in
+    let s = g .before .before .before in
     of-grid (now (s .args .card)) (s .args .column) (s .args .layout) (s .pre .0) (now (s .args .waypoints)) (s .args .points)
-    (m .before .if1 .left) _ _ (m .whole-in3 .ensures) (c .differs2 .ensures)
+    (g .before .if1 .left) (g .if2 .taken) _ _ (m .whole-in3 .ensures) (c .differs2 .ensures)
+
+returns-3 : tie.Need-returns-3
+returns-3 c =
+    let s = c .before .before .before in
+    of-none (now (s .args .card)) (s .args .column) (s .args .layout) (s .pre .0) (now (s .args .waypoints)) (s .args .points)
+    (c .before .if1 .left) (c .if2 .left)
 
 pub miscounts-spec : {M : Type 1} → statement M
 miscounts-spec =
@@ -55,4 +62,5 @@ miscounts-spec =
     returns
     whole-in-requires-3
     differs-requires-2
-    returns-2)
+    returns-2
+    returns-3)

@@ -6,24 +6,38 @@ use borrow.Author.Needs.{needs}
 use Rattle.faults.proofs.list_faults.Statement.{statement}
 use Rattle.faults.proofs.list_faults.Tie as tie
 
+note-layouts-requires : tie.Need-note-layouts-requires
+note-layouts-requires c κs =
+    let s = c .before .before .before in
+    (few-cards (now (s .args .header)) (s .pre), refl)
+
 gather-requires : tie.Need-gather-requires
 gather-requires c κs =
-    let s = c .before .before .before .before .before .before .before in
-    (few-cards (now (s .args .header)) (s .pre), (refl, (refl, (refl, (refl, refl)))))
+    let l = c .before .before .before .before .before .before in
+    let s = l .before .before .before .before in (
+      few-cards (now (s .args .header)) (s .pre),
+      (l .note-layouts .ensures, (refl, (refl, (refl, (refl, refl))))),
+    )
 
 count-waypoints-requires : tie.Need-count-waypoints-requires
 count-waypoints-requires c κs = search needs
 
 points-in-requires : tie.Need-points-in-requires
-points-in-requires c κs = search needs
+points-in-requires c κs =
+    let l = c .before .before .before .before .before .before .before .before .before .before .before in
+    let s = l .before .before .before .before in
+    (few-cards (now (s .args .header)) (s .pre), l .note-layouts .ensures)
 
 list-cards-requires : tie.Need-list-cards-requires
 list-cards-requires c κs =
-    let p = c .before .before .before .before .before .before .before in
-    let w = p .before in
+    let p = c .before .before .before .before .before .before .before .before in
+    let w = p .before .before in
     let g = w .before .before .before in
-    let s = g .before .before .before .before .before .before .before .before in
-    ready (now (s .args .header)) (s .pre) _ _ _ _ _ _ _ _ (g .gather .ensures) (w .count-waypoints .ensures) (p .points-in .ensures)
+    let l = g .before .before .before .before .before .before .before in
+    let s = l .before .before .before .before in (
+      l .note-layouts .ensures,
+      ready (now (s .args .header)) (s .pre) _ _ _ _ _ _ _ _ (g .gather .ensures) (w .count-waypoints .ensures) (p .points-in .ensures),
+    )
 
 same-length : tie.Need-same-length
 same-length c = search needs
@@ -35,6 +49,7 @@ pub list-faults-spec : {M : Type 1} → statement M
 list-faults-spec =
     tie.close
     (tie.spec
+    note-layouts-requires
     gather-requires
     count-waypoints-requires
     points-in-requires

@@ -1,11 +1,11 @@
 -- `gathering::gather` meets its contract.
-use Prim.Native.Nat.{_+_, _*_, _-_, _/_, _≤_}
-use mathlib.Core.Path.{_≡_}
+use Prim.Native.Nat.{_+_, _*_, _-_, _/_, _≤_, _<_}
+use mathlib.Core.Path.{_≡_, sym, ap, _∙_}
 use lib.ListN.{length}
 use denote.Ref.{now}
 use native.Mathlib.Omega.{arith}
 use borrow.Author.Needs.{needs}
-use Rattle.forms.specs.Cards.{cardsIn}
+use Rattle.forms.specs.Cards.{cardsIn, layoutOf}
 use Rattle.forms.proofs.Steps.{card-part, card-ends}
 use Rattle.gathering.specs.Gathered.{Gathered}
 use Rattle.gathering.proofs.Growing.{no-cards, card-more, all-cards}
@@ -13,16 +13,16 @@ use Rattle.gathering.proofs.gather.Statement.{statement}
 use Rattle.gathering.proofs.gather.Tie as tie
 
 abbrev Inv-loop : tie.InvT-loop
-Inv-loop header numbers₀ tags₀ heads₀ next₀ times₀ count n₀ place₀ numbers tags heads next times n place =
+Inv-loop header layouts numbers₀ tags₀ heads₀ next₀ times₀ count n₀ place₀ numbers tags heads next times n place =
     (place ≤ length header / 80) × (n ≤ 5 * place) × Gathered header (80 * place) numbers tags n heads next times
 
 abbrev μ-loop : tie.MeasureT-loop
-μ-loop header numbers₀ tags₀ heads₀ next₀ times₀ count n₀ place₀ numbers tags heads next times n place = length header / 80 - place
+μ-loop header layouts numbers₀ tags₀ heads₀ next₀ times₀ count n₀ place₀ numbers tags heads next times n place = length header / 80 - place
 
 loop-holds : tie.Need-loop-holds Inv-loop μ-loop
 loop-holds c =
     let s = c .before in
-    let p = s .pre .1 in
+    let p = s .pre .1 .1 in
     (omega arith, omega arith, no-cards (now (s .args .header)) _ _ _ _ _ (p .0) (p .1 .0) (p .1 .1 .0) (p .1 .1 .1 .0) (p .1 .1 .1 .1))
 
 -- the card lies within the header
@@ -45,13 +45,26 @@ part-card-start c = omega (arith, within c)
 part-card-end : tie.Need-part-card-end Inv-loop μ-loop
 part-card-end c = omega (arith, within c)
 
+-- its layout is noted
+below : (c : tie.In-loop Inv-loop μ-loop) → c .before .loop .place < 800
+unfolding cardsIn
+below c = omega (arith, c .loop-test .taken, c .before .before .before .pre .0)
+
+mul-layout : tie.Need-mul-layout Inv-loop μ-loop
+mul-layout c = omega (arith, below (c .before))
+
+element-copy-out-layout : tie.Need-element-copy-out-layout Inv-loop μ-loop
+element-copy-out-layout c = omega (arith, below (c .before), c .before .before .before .before .pre .1 .0 .room)
+
 gather-card-requires : tie.Need-gather-card-requires Inv-loop μ-loop
 unfolding cardsIn
 gather-card-requires c κs =
-    let l = c .before .before .before .before .before .before in
+    let l = c .before .before .before .before .before .before .before in
     let b = l .before .loop in
     let s = l .before .before .before in
-    (omega (arith, b .inv .1, l .loop-test .taken, s .pre .0), (b .inv .2 .tags-room, b .inv .2 .linked))
+    let card = card-part (now (s .args .header)) (b .place) in
+    let k = s .pre .1 .0 .layouts-are (b .place) (l .loop-test .taken) ∙ ap layoutOf (sym card) in
+    (k, (omega (arith, b .inv .1, l .loop-test .taken, s .pre .0), (b .inv .2 .tags-room, b .inv .2 .linked)))
 
 add-place : tie.Need-add-place Inv-loop μ-loop
 add-place c = search needs
@@ -61,7 +74,7 @@ loop-less c = search needs
 
 loop-again : tie.Need-loop-again Inv-loop μ-loop
 loop-again c =
-    let l = c .before .before .before .before .before .before .before in
+    let l = c .before .before .before .before .before .before .before .before in
     let b = l .before .loop in
     let h = now (l .before .before .before .args .header) in
     let e = c .gather-card .ensures in (
@@ -90,6 +103,8 @@ gather-spec =
     sub-card
     part-card-start
     part-card-end
+    mul-layout
+    element-copy-out-layout
     gather-card-requires
     add-place
     loop-less

@@ -10,11 +10,11 @@ defining-requires : tie.Need-defining-requires
 defining-requires c κs = search needs
 
 key-by-requires : tie.Need-key-by-requires
-key-by-requires c κs = found-of-kind _ defines _ _ (c .defining .ensures)
+key-by-requires c κs = found-of-kind defines _ _ _ (c .defining .ensures)
 
 returns : tie.Need-returns
 returns c =
-    found-key _ defines _ _ (now (c .before .before .before .args .card)) _ (c .before .defining .ensures)
+    found-key defines _ _ _ (c .before .defining .ensures) (now (c .before .before .before .args .card)) _
     (c .key-by .ensures)
 
 pub defined-by-spec : {M : Type 1} → statement M

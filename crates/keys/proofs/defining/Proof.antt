@@ -2,7 +2,7 @@
 use mathlib.Core.Path.{refl, _∙_}
 use Rattle.lists.specs.Parts.{kept}
 use Rattle.keys.specs.Roles.{defines, ties}
-use Rattle.keys.specs.Lines.{lineOf, heldAs}
+use Rattle.keys.specs.Lines.{codeOf, lineOf}
 use Rattle.keys.proofs.Table.{ofLayout, choices, chosen-line, none-defines}
 use borrow.Author.Needs.{needs}
 use Rattle.keys.proofs.defining.Statement.{statement}
@@ -45,35 +45,35 @@ choose-requires-12 : tie.Need-choose-requires-12
 choose-requires-12 c κs = search needs
 
 returns : tie.Need-returns
-unfolding choices kept ofLayout ties lineOf heldAs
+unfolding choices kept ofLayout ties lineOf codeOf
 returns c = c .choose .ensures ∙ chosen-line defines _ _ 8 (c .before .match .keys1)
 
 returns-2 : tie.Need-returns-2
-unfolding choices kept ofLayout ties lineOf heldAs
+unfolding choices kept ofLayout ties lineOf codeOf
 returns-2 c = c .choose3 .ensures ∙ rw (c .before .choose2 .ensures) (chosen-line defines _ _ 9 (c .before .before .match .keys2))
 
 returns-3 : tie.Need-returns-3
-unfolding choices kept ofLayout ties lineOf heldAs
+unfolding choices kept ofLayout ties lineOf codeOf
 returns-3 c = c .choose4 .ensures ∙ chosen-line defines _ _ 12 (c .before .match .keys3)
 
 returns-4 : tie.Need-returns-4
-unfolding choices kept ofLayout ties lineOf heldAs
+unfolding choices kept ofLayout ties lineOf codeOf
 returns-4 c = c .choose5 .ensures ∙ chosen-line defines _ _ 13 (c .before .match .keys4)
 
 returns-5 : tie.Need-returns-5
-unfolding choices kept ofLayout ties lineOf heldAs
+unfolding choices kept ofLayout ties lineOf codeOf
 returns-5 c = c .choose6 .ensures ∙ chosen-line defines _ _ 14 (c .before .match .keys5)
 
 returns-6 : tie.Need-returns-6
-unfolding choices kept ofLayout ties lineOf heldAs
+unfolding choices kept ofLayout ties lineOf codeOf
 returns-6 c = c .choose7 .ensures ∙ chosen-line defines _ _ 16 (c .before .match .keys6)
 
 returns-7 : tie.Need-returns-7
-unfolding choices kept ofLayout ties lineOf heldAs
+unfolding choices kept ofLayout ties lineOf codeOf
 returns-7 c = c .choose8 .ensures ∙ chosen-line defines _ _ 18 (c .before .match .keys7)
 
 returns-8 : tie.Need-returns-8
-unfolding choices kept ofLayout ties lineOf heldAs
+unfolding choices kept ofLayout ties lineOf codeOf
 returns-8 c =
     c .choose12 .ensures ∙ rw (
       c .before .choose11 .ensures,
@@ -83,7 +83,7 @@ returns-8 c =
     (c .before .before .before .before .match .keys8))
 
 returns-9 : tie.Need-returns-9
-unfolding lineOf heldAs
+unfolding lineOf codeOf
 returns-9 c =
     none-defines _ _ _ refl (c .match .rest .0 .0 .0 .0 .0 .0 .0 .1) (c .match .rest .0 .0 .0 .0 .0 .0 .1)
     (c .match .rest .0 .0 .0 .0 .0 .1) (c .match .rest .0 .0 .0 .0 .1) (c .match .rest .0 .0 .0 .1) (c .match .rest .0 .0 .1)

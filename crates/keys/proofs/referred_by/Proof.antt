@@ -10,11 +10,11 @@ referring-requires : tie.Need-referring-requires
 referring-requires c κs = search needs
 
 key-by-requires : tie.Need-key-by-requires
-key-by-requires c κs = found-of-kind _ refers _ _ (c .referring .ensures)
+key-by-requires c κs = found-of-kind refers _ _ _ (c .referring .ensures)
 
 returns : tie.Need-returns
 returns c =
-    found-key _ refers _ _ (now (c .before .before .before .args .card)) _ (c .before .referring .ensures)
+    found-key refers _ _ _ (c .before .referring .ensures) (now (c .before .before .before .args .card)) _
     (c .key-by .ensures)
 
 pub referred-by-spec : {M : Type 1} → statement M

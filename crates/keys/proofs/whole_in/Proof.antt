@@ -8,16 +8,12 @@ use Rattle.keys.proofs.whole_in.Tie as tie
 columns-requires : tie.Need-columns-requires
 columns-requires c κs = search needs
 
-read-number-requires : tie.Need-read-number-requires
-read-number-requires c κs = search needs
-
-mark-requires : tie.Need-mark-requires
-mark-requires c κs = search needs
+signed-requires : tie.Need-signed-requires
+signed-requires c κs = search needs
 
 returns : tie.Need-returns
 returns c =
-    whole-marked (now (c .before .before .before .before .args .card)) _ _ _ _ _ (c .before .before .columns .ensures)
-    (c .before .read-number .ensures) (c .mark .ensures)
+    whole-marked (now (c .before .before .before .args .card)) _ _ _ _ (c .before .columns .ensures) (c .signed .ensures)
 
 pub whole-in-spec : {M : Type 1} → statement M
-whole-in-spec = tie.close (tie.spec columns-requires read-number-requires mark-requires returns)
+whole-in-spec = tie.close (tie.spec columns-requires signed-requires returns)

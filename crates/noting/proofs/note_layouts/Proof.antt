@@ -1,5 +1,5 @@
--- `gathering::points_in` meets its contract.
-use Prim.Native.Nat.{_+_, _*_, _-_, _/_, _≤_}
+-- `noting::note_layouts` meets its contract.
+use Prim.Native.Nat.{_+_, _*_, _-_, _/_, _≤_, _<_}
 use mathlib.Core.Path.{_≡_, ap, _∙_}
 use lib.ListN.{length}
 use denote.Ref.{now}
@@ -7,24 +7,29 @@ use native.Mathlib.Omega.{arith}
 use borrow.Author.Needs.{needs}
 use Rattle.forms.specs.Cards.{cardsIn, layoutOf}
 use Rattle.forms.proofs.Steps.{card-part, card-ends}
-use Rattle.gathering.specs.Numbers.{pointsTo}
-use Rattle.gathering.proofs.Counting.{no-points, points-more, points-few}
-use Rattle.gathering.proofs.points_in.Statement.{statement}
-use Rattle.gathering.proofs.points_in.Tie as tie
+use Rattle.noting.specs.Noted.{Noted}
+use Rattle.noting.proofs.Noting.{none-noted, noted-more, all-noted}
+use Rattle.noting.proofs.note_layouts.Statement.{statement}
+use Rattle.noting.proofs.note_layouts.Tie as tie
 
 abbrev Inv-loop : tie.InvT-loop
-Inv-loop header count found₀ place₀ found place = (place ≤ length header / 80) × (found ≡ pointsTo header place)
+Inv-loop header layouts₀ cards place₀ layouts place = (place ≤ length header / 80) × Noted header place layouts
 
 abbrev μ-loop : tie.MeasureT-loop
-μ-loop header count found₀ place₀ found place = length header / 80 - place
+μ-loop header layouts₀ cards place₀ layouts place = length header / 80 - place
 
 loop-holds : tie.Need-loop-holds Inv-loop μ-loop
-loop-holds c = (omega arith, no-points (now (c .before .args .header)))
+loop-holds c = (omega arith, none-noted _ _ (c .before .pre .1))
 
 -- the card lies within the header
 within : (c : tie.In-loop Inv-loop μ-loop)
     → c .before .loop .place * 80 + 80 ≤ length (now (c .before .before .before .args .header))
 within c = card-ends (now (c .before .before .before .args .header)) (c .before .loop .place) (c .loop-test .taken)
+
+-- and there is room to note its layout
+below : (c : tie.In-loop Inv-loop μ-loop) → c .before .loop .place < 800
+unfolding cardsIn
+below c = omega (arith, c .loop-test .taken, c .before .before .before .pre .0)
 
 mul-from : tie.Need-mul-from Inv-loop μ-loop
 mul-from c = omega (arith, within c)
@@ -44,15 +49,11 @@ part-card-end c = omega (arith, within c)
 layout-of-requires : tie.Need-layout-of-requires Inv-loop μ-loop
 layout-of-requires c κs = search needs
 
-bit-of-requires : tie.Need-bit-of-requires Inv-loop μ-loop
-bit-of-requires c κs = search needs
+mul-layouts : tie.Need-mul-layouts Inv-loop μ-loop
+mul-layouts c = omega (arith, below (c .before .before))
 
-add-found : tie.Need-add-found Inv-loop μ-loop
-add-found c =
-    let l = c .before .before .before in
-    let b = l .before .loop in
-    let h = now (l .before .before .before .args .header) in
-    omega (arith, c .bit-of .ensures .1, b .inv .1, points-few h (b .place), within l)
+element-write-layouts : tie.Need-element-write-layouts Inv-loop μ-loop
+element-write-layouts c = omega (arith, below (c .before .before), c .before .before .before .loop .inv .1 .room)
 
 add-place : tie.Need-add-place Inv-loop μ-loop
 add-place c = search needs
@@ -62,11 +63,11 @@ loop-less c = search needs
 
 loop-again : tie.Need-loop-again Inv-loop μ-loop
 loop-again c =
-    let l = c .before .before .before in
+    let l = c .before .before in
     let b = l .before .loop in
     let h = now (l .before .before .before .args .header) in
-    let k = c .before .layout-of .ensures ∙ ap layoutOf (card-part h (b .place)) in
-    (omega arith, points-more h (b .place) _ _ _ (b .inv .1) k (c .bit-of .ensures .0))
+    let k = c .layout-of .ensures ∙ ap layoutOf (card-part h (b .place)) in
+    (omega arith, noted-more h _ (b .place) _ (below l) (b .inv .1) k)
 
 returns : tie.Need-returns Inv-loop μ-loop
 unfolding cardsIn
@@ -74,10 +75,10 @@ returns c =
     let b = c .before .loop in
     let h = now (c .before .before .before .args .header) in
     let q : b .place ≡ length h / 80 = omega (arith, b .inv .0) in
-    b .inv .1 ∙ ap (pointsTo h) q
+    all-noted h _ _ _ q (b .inv .1)
 
-pub points-in-spec : {M : Type 1} → statement M
-points-in-spec =
+pub note-layouts-spec : {M : Type 1} → statement M
+note-layouts-spec =
     tie.close
     (tie.spec
     Inv-loop
@@ -89,8 +90,8 @@ points-in-spec =
     part-card-start
     part-card-end
     layout-of-requires
-    bit-of-requires
-    add-found
+    mul-layouts
+    element-write-layouts
     add-place
     loop-less
     loop-again

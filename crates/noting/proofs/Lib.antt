@@ -1,0 +1,2 @@
+-- Laws of the layouts that are noted.
+pub mod Noting
