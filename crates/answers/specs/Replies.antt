@@ -1,11 +1,9 @@
 -- Each answer as numbers: one that says it, and the three that go with it.
 use Prim.Native.Nat.{ℕ}
 use mathlib.Core.Bool.{true, false}
-use mathlib.Core.List.{List, [], _∷_}
 use lib.IntN.{ℤ, pos}
 use Rattle.digits.specs.Figures.{capped}
 use Rattle.signs.specs.Signs.{signedOf}
-use Rattle.lists.specs.Laid.{stored}
 use Rattle.seeking.specs.declared.Refusal.{Refusal}
 use Rattle.spelling.specs.declared.Value.{Value}
 use Rattle.spelling.specs.declared.Value.the-variants.{Absent, Whole, Decimal, Angle, Date, Text}
@@ -17,10 +15,10 @@ use Rattle.opening.specs.declared.Opened.{Opened}
 use Rattle.opening.specs.declared.Opened.the-variants as opened
 use Rattle.ties.specs.declared.Ties.{Ties}
 use Rattle.ties.specs.declared.Ties.the-variants as ties
-use Rattle.ties.specs.declared.Definitions.{Definitions}
-use Rattle.ties.specs.declared.Definitions.the-variants as number
-use Rattle.ties.specs.declared.Place.{Place}
-use Rattle.ties.specs.declared.Place.the-variants as place
+use Rattle.questions.specs.declared.Definitions.{Definitions}
+use Rattle.questions.specs.declared.Definitions.the-variants as number
+use Rattle.questions.specs.declared.Place.{Place}
+use Rattle.questions.specs.declared.Place.the-variants as place
 use Rattle.answers.specs.declared.Reply.{Reply}
 
 abbrev pub reply : ℤ → ℤ → ℤ → ℤ → Reply
@@ -94,7 +92,3 @@ definitionsReply (number.Refused r) = refusedReply r
 unfoldable pub placeReply : Place → Reply
 placeReply (place.At card column) = atReply card column
 placeReply (place.Refused r) = refusedReply r
-
--- the three numbers at the front of a lent list that has room for them; a shorter one stays as it was
-unfoldable pub given : List ℤ → Reply → List ℤ
-given l r = stored l 0 (r .first ∷ r .second ∷ r .third ∷ [])

@@ -1,20 +1,17 @@
-// Answers as numbers, for programs in other languages: one number that says it, and three that go with it.
+// Every answer as numbers, for programs in other languages: one number that says it, and three that go with it.
 use date::Date;
 use entry::Entered;
 use field::FieldRead;
 use number::Decimal;
 use opening::Opened;
+use questions::Definitions;
+use questions::Place;
 use seeking::Refusal;
 use spelling::Columns;
 use spelling::Value;
-use ties::Definitions;
-use ties::Place;
 use ties::Ties;
 ghost use mathlib.Core.Path.{_≡_};
-ghost use Rattle.answers.specs.Replies.{plain, refusedReply, doneReply, valueReply, fieldReply, textReply, enteredReply, openedReply, countReply, atReply, tiesReply, definitionsReply, placeReply, given};
-
-// How many numbers go with an answer.
-const NUMBERS: usize = 3;
+ghost use Rattle.answers.specs.Replies.{plain, refusedReply, doneReply, valueReply, fieldReply, textReply, enteredReply, openedReply, countReply, atReply, tiesReply, definitionsReply, placeReply};
 
 // What an answer says, and the numbers that go with it.
 pub struct Reply {
@@ -221,22 +218,4 @@ pub fn of_place(place: Place) -> Reply
         Place::At(card, column) => at(card, column),
         Place::Refused(r) => refused(r),
     }
-}
-
-// Gives an answer: its numbers into a lent list that has room for them, and what it says.
-pub fn give(numbers: &mut [i64], reply: Reply) -> i64
-    ensures said { λ r. ⌜ r ≡ reply .said ⌝ }
-    ensures numbers { λ _. ⌜ now (numbers .exit) ≡ given (now (numbers .entry)) reply ⌝ }
-{
-    let said = reply.said;
-    if numbers.len() < NUMBERS {
-        return said;
-    }
-    let first = reply.first;
-    let second = reply.second;
-    let third = reply.third;
-    numbers[0] = first;
-    numbers[1] = second;
-    numbers[2] = third;
-    said
 }

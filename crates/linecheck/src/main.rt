@@ -7,7 +7,7 @@ const ROOM: usize = 64080;
 
 // Writes the answer to a header in one go.
 fn reply(header: &[u8]) {
-    let mut out = [0u8; answer::LONGEST];
+    let mut out = [0u8; lines::LONGEST];
     let n = telling::tell(header, &mut out);
     if !io::write_all(STDOUT_FILENO, &out[..n]) {
         os::fail(b"linecheck: standard output");

@@ -23,7 +23,7 @@ fn ended(lines: usize, b: u8) -> usize {
     if b != NEWLINE {
         return lines;
     }
-    if answer::MOST < lines {
+    if lines::MOST < lines {
         return lines;
     }
     lines + 1
@@ -45,10 +45,10 @@ fn explain(
     if lines == 0 {
         return n;
     }
-    if list.len() / answer::ENTRY < lines {
+    if list.len() / lines::ENTRY < lines {
         return n;
     }
-    let at = (lines - 1) * answer::ENTRY;
+    let at = (lines - 1) * lines::ENTRY;
     showing::tell_fault(out, n, header, keys, list[at], list[at + 1], list[at + 2])
 }
 
@@ -71,15 +71,15 @@ fn show_lines(out: &mut [u8], text: &[u8], header: &[u8], keys: &[u64], list: &[
 fn show_broken(out: &mut [u8], header: &[u8], found: usize, list: &[u32]) -> usize {
     let mut keys = [0u64; KEYS];
     places::note(header, &mut keys);
-    let mut text = [0u8; answer::LONGEST];
-    let size = answer::spell_broken(&mut text, found, list);
+    let mut text = [0u8; lines::LONGEST];
+    let size = lines::spell_broken(&mut text, found, list);
     show_lines(out, &text[..size], header, &keys, list)
 }
 
 // Shows why a header is refused.
 fn show_refused(out: &mut [u8], header: &[u8], refusal: Refusal) -> usize {
     let mut text = [0u8; LINE];
-    let size = answer::spell_refused(&mut text, refusal.number, refusal.card, refusal.column);
+    let size = lines::spell_refused(&mut text, refusal.number, refusal.card, refusal.column);
     let said = sheet::push_all(out, 0, &text[..size]);
     reasons::tell_refusal(out, said, header, refusal)
 }

@@ -8,8 +8,8 @@ use borrow.Author.Tests.{eq-eqb, ne-eqb}
 use Rattle.signs.specs.Signs.{isMinus}
 use Rattle.spelling.specs.declared.Value.{Value}
 use Rattle.spelling.specs.declared.Value.the-variants.{Absent, Whole, Decimal, Angle, Date, Text}
-use Rattle.ties.specs.declared.Key.{Key}
-use Rattle.ties.specs.declared.Key.the-variants as key
+use Rattle.questions.specs.declared.Key.{Key}
+use Rattle.questions.specs.declared.Key.the-variants as key
 use Rattle.offers.specs.Offers.{partOf, yearOf, offeredOf, keyOf}
 
 pub year-minus : (z : ℤ) → isMinus z ≡ true → yearOf z ≡ 0

@@ -7,8 +7,8 @@ use lib.Dec.{eqb, ltb}
 use Rattle.signs.specs.Signs.{isMinus}
 use Rattle.spelling.specs.declared.Value.{Value}
 use Rattle.spelling.specs.declared.Value.the-variants.{Absent, Whole, Decimal, Angle, Date, Text}
-use Rattle.ties.specs.declared.Key.{Key}
-use Rattle.ties.specs.declared.Key.the-variants as key
+use Rattle.questions.specs.declared.Key.{Key}
+use Rattle.questions.specs.declared.Key.the-variants as key
 
 -- a part of a date; what 32 bits do not hold is 0, which no date has
 unfoldable pub partOf : ℕ → ℕ

@@ -1,9 +1,9 @@
 // What a caller in another language offers as numbers: a value for a field, a key.
 use date::Date;
 use number::Decimal;
+use questions::Key;
 use spelling::Columns;
 use spelling::Value;
-use ties::Key;
 ghost use mathlib.Core.Path.{_≡_};
 ghost use Rattle.offers.specs.Offers.{partOf, yearOf, offeredOf, keyOf, keyTextOf};
 

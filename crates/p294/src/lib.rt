@@ -1,5 +1,6 @@
 // The doors for programs in other languages: each takes numbers and bytes, and answers in numbers. include/p294.h says
 // what each number means; crate `answers` defines it.
+use answers::Reply;
 ghost use mathlib.Core.Path.{_≡_};
 ghost use lib.ListN.{length};
 ghost use Rattle.field.specs.Reading.{fieldReading};
@@ -8,9 +9,31 @@ ghost use Rattle.entry.specs.Putting.{answerOf, leftBy, puttingOf, puttingTextO
 ghost use Rattle.header.specs.Refusing.{refusalOf};
 ghost use Rattle.broken.specs.Faults.{faults, entries};
 ghost use Rattle.ties.specs.Answer.{answerFor, listFor};
-ghost use Rattle.ties.specs.Questions.{definitionsFor, placeFor};
+ghost use Rattle.questions.specs.Questions.{definitionsFor, placeFor};
 ghost use Rattle.offers.specs.Offers.{offeredOf, keyOf, keyTextOf};
-ghost use Rattle.answers.specs.Replies.{fieldReply, textReply, enteredReply, openedReply, tiesReply, definitionsReply, placeReply, given};
+ghost use Rattle.answers.specs.Replies.{fieldReply, textReply, enteredReply, openedReply, tiesReply, definitionsReply, placeReply};
+ghost use Rattle.p294.specs.Given.{given};
+
+// How many numbers go with an answer.
+const NUMBERS: usize = 3;
+
+// Gives an answer: its numbers into a lent list that has room for them, and what it says.
+fn give(numbers: &mut [i64], reply: Reply) -> i64
+    ensures said { λ r. ⌜ r ≡ reply .said ⌝ }
+    ensures numbers { λ _. ⌜ now (numbers .exit) ≡ given (now (numbers .entry)) reply ⌝ }
+{
+    let said = reply.said;
+    if numbers.len() < NUMBERS {
+        return said;
+    }
+    let first = reply.first;
+    let second = reply.second;
+    let third = reply.third;
+    numbers[0] = first;
+    numbers[1] = second;
+    numbers[2] = third;
+    said
+}
 
 // What stands in the field with a number, its coordinates in the form that is given.
 #[no_mangle]
@@ -25,7 +48,7 @@ pub extern "C" fn p294_read_field(
         ≡ given (now (numbers .entry)) (fieldReply (fieldReading (now (card .entry)) number form)) ⌝ }
 {
     let reply = answers::of_field(field::read_field(card, number, form));
-    answers::give(numbers, reply)
+    give(numbers, reply)
 }
 
 // The columns of the text in the field with a number.
@@ -41,7 +64,7 @@ pub extern "C" fn p294_read_text(
         ≡ given (now (numbers .entry)) (textReply (fieldReading (now (card .entry)) number form)) ⌝ }
 {
     let reply = answers::of_text(field::read_field(card, number, form));
-    answers::give(numbers, reply)
+    give(numbers, reply)
 }
 
 // A new card of a code.
@@ -53,7 +76,7 @@ pub extern "C" fn p294_open(card: &mut [u8], code: &[u8], numbers: &mut [i64]) -
     ensures card { λ _. ⌜ now (card .exit) ≡ openedCard (now (code .entry)) (now (card .entry)) ⌝ }
 {
     let reply = answers::of_opened(opening::open(card, code));
-    answers::give(numbers, reply)
+    give(numbers, reply)
 }
 
 // Puts a value, offered as its kind and three numbers, into the field with a number.
@@ -77,7 +100,7 @@ pub extern "C" fn p294_put(
 {
     let value = offers::offered(kind, a, b, c);
     let reply = answers::of_entered(entry::put(card, number, form, value));
-    answers::give(numbers, reply)
+    give(numbers, reply)
 }
 
 // Puts a text into the field with a number.
@@ -97,7 +120,7 @@ pub extern "C" fn p294_put_text(
         ≡ leftBy (puttingTextOf (now (card .entry)) number form (now (text .entry))) (now (card .entry)) ⌝ }
 {
     let reply = answers::of_entered(entry::put_text(card, number, form, text));
-    answers::give(numbers, reply)
+    give(numbers, reply)
 }
 
 // The number of all faults of a header, with their entries in the list as far as they fit; or its refusal.
@@ -111,7 +134,7 @@ pub extern "C" fn p294_check(header: &[u8], list: &mut [u32], numbers: &mut [i64
         ≡ listFor (refusalOf (now (header .entry))) (now (list .entry)) (entries (faults (now (header .entry)))) ⌝ }
 {
     let reply = answers::of_ties(ties::check(header, list));
-    answers::give(numbers, reply)
+    give(numbers, reply)
 }
 
 // How often a key of a class, offered as its kind with two numbers or a text, is defined.
@@ -133,7 +156,7 @@ pub extern "C" fn p294_definitions(
     let key = offers::key_of(kind, a, b);
     let bytes = offers::key_text(kind, text);
     let reply = answers::of_definitions(ties::definitions_of(header, class, key, bytes));
-    answers::give(numbers, reply)
+    give(numbers, reply)
 }
 
 // The card and the column of its only definition.
@@ -155,5 +178,5 @@ pub extern "C" fn p294_place(
     let wanted = offers::key_of(kind, a, b);
     let spelled = offers::key_text(kind, text);
     let reply = answers::of_place(ties::place_of(header, class, wanted, spelled));
-    answers::give(numbers, reply)
+    give(numbers, reply)
 }

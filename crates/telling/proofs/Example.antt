@@ -9,7 +9,7 @@ use Rattle.broken.specs.Faults.{entryOf, faults, entries}
 use Rattle.tie_laws.proofs.Complete.{listOf}
 use Rattle.tie_laws.proofs.ExampleCards.{example}
 use Rattle.tie_laws.proofs.Example.{accepted, worked}
-use Rattle.answer.specs.Text.{bytes, newline, numeral, spaced, countText, entryText, entryAt, entriesText, told, brokenText}
+use Rattle.lines.specs.Text.{bytes, newline, numeral, spaced, countText, entryText, entryAt, entriesText, told, brokenText}
 use Rattle.telling.specs.Answer.{answerOf, answerTo}
 
 -- entries one after the other

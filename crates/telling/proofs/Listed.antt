@@ -16,7 +16,7 @@ use Rattle.ties.specs.declared.Ties.{Ties}
 use Rattle.ties.specs.declared.Ties.the-variants.{Found, Refused}
 use Rattle.ties.specs.Answer.{answerFor, listFor}
 use Rattle.telling.specs.Answer.{answerOf, answerTo}
-use Rattle.answer.specs.Text.{refusedText, countText, entryText, entryAt, entriesText, told, brokenText}
+use Rattle.lines.specs.Text.{refusedText, countText, entryText, entryAt, entriesText, told, brokenText}
 
 entry-same : (l m : List ℕ) (i : ℕ) → ((j : ℕ) → j < 3 * i + 3 → getD l j 0 ≡ getD m j 0) → entryAt l i ≡ entryAt m i
 unfolding entryAt

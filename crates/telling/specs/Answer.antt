@@ -6,7 +6,7 @@ use Rattle.header.specs.declared.Checked.{Checked}
 use Rattle.header.specs.declared.Checked.the-variants.{Accepted, Refused}
 use Rattle.header.specs.Refusing.{refusalOf}
 use Rattle.broken.specs.Faults.{faults, entries}
-use Rattle.answer.specs.Text.{refusedText, brokenText}
+use Rattle.lines.specs.Text.{refusedText, brokenText}
 
 unfoldable pub answerOf : Checked → List ℕ → List ℕ
 answerOf (Refused r) found = refusedText (r .number) (r .card) (r .column)

@@ -18,8 +18,8 @@ fn tell_by(header: &[u8], list: &mut [u32; ROOM], out: &mut [u8]) -> usize
 {
     let ties = ties::check(header, list);
     match ties {
-        Ties::Found(n) => answer::spell_broken(out, n, list),
-        Ties::Refused(r) => answer::spell_refused(out, r.number, r.card, r.column),
+        Ties::Found(n) => lines::spell_broken(out, n, list),
+        Ties::Refused(r) => lines::spell_refused(out, r.number, r.card, r.column),
     }
 }
 

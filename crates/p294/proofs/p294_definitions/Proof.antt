@@ -3,16 +3,16 @@ use denote.Ref.{now}
 use mathlib.Core.Path.{_≡_, refl, sym, ap, _∙_}
 use mir.Syntax.{w64}
 use mir.ValLaws.{toZ-ofZ}
-use Rattle.ties.specs.Questions.{definitionsFor}
+use Rattle.questions.specs.Questions.{definitionsFor}
 use Rattle.offers.proofs.Steps.{same-key, asked}
 use Rattle.answers.specs.Replies.{definitionsReply}
-use Rattle.answers.proofs.Steps.{answered}
+use Rattle.p294.proofs.Giving.{answered}
 use borrow.Author.Needs.{needs}
 use Rattle.p294.proofs.p294_definitions.Statement.{statement}
 use Rattle.p294.proofs.p294_definitions.Tie as tie
 use Rattle.p294.proofs.p294_definitions.Reads as reads
 use Rattle.p294.proofs.p294_definitions.Lts as lts
-use Rattle.answers.proofs.give.Reads as give-reads
+use Rattle.p294.proofs.give.Reads as give-reads
 use Rattle.answers.proofs.of_definitions.Reads as of-definitions-reads
 use Rattle.offers.proofs.key_of.Reads as key-of-reads
 use Rattle.offers.proofs.key_text.Reads as key-text-reads

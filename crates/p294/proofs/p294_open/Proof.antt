@@ -2,13 +2,13 @@
 use denote.Ref.{now}
 use mathlib.Core.Path.{_≡_, refl, sym, ap, _∙_}
 use Rattle.answers.specs.Replies.{openedReply}
-use Rattle.answers.proofs.Steps.{answered}
+use Rattle.p294.proofs.Giving.{answered}
 use borrow.Author.Needs.{needs}
 use Rattle.p294.proofs.p294_open.Statement.{statement}
 use Rattle.p294.proofs.p294_open.Tie as tie
 use Rattle.p294.proofs.p294_open.Reads as reads
 use Rattle.p294.proofs.p294_open.Lts as lts
-use Rattle.answers.proofs.give.Reads as give-reads
+use Rattle.p294.proofs.give.Reads as give-reads
 use Rattle.answers.proofs.of_opened.Reads as of-opened-reads
 use Rattle.opening.proofs.open.Reads as open-reads
 

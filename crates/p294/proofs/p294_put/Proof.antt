@@ -2,7 +2,7 @@
 use denote.Ref.{now}
 use mathlib.Core.Path.{_≡_, refl, sym, ap, _∙_}
 use Rattle.answers.specs.Replies.{enteredReply}
-use Rattle.answers.proofs.Steps.{answered}
+use Rattle.p294.proofs.Giving.{answered}
 use mir.Syntax.{w64}
 use mir.ValLaws.{toZ-ofZ}
 use Rattle.entry.specs.Putting.{answerOf, leftBy, puttingOf}
@@ -12,7 +12,7 @@ use Rattle.p294.proofs.p294_put.Statement.{statement}
 use Rattle.p294.proofs.p294_put.Tie as tie
 use Rattle.p294.proofs.p294_put.Reads as reads
 use Rattle.p294.proofs.p294_put.Lts as lts
-use Rattle.answers.proofs.give.Reads as give-reads
+use Rattle.p294.proofs.give.Reads as give-reads
 use Rattle.answers.proofs.of_entered.Reads as of-entered-reads
 use Rattle.entry.proofs.put.Reads as put-reads
 use Rattle.offers.proofs.offered.Reads as offered-reads

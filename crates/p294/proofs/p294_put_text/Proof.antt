@@ -2,13 +2,13 @@
 use denote.Ref.{now}
 use mathlib.Core.Path.{_≡_, refl, sym, ap, _∙_}
 use Rattle.answers.specs.Replies.{enteredReply}
-use Rattle.answers.proofs.Steps.{answered}
+use Rattle.p294.proofs.Giving.{answered}
 use borrow.Author.Needs.{needs}
 use Rattle.p294.proofs.p294_put_text.Statement.{statement}
 use Rattle.p294.proofs.p294_put_text.Tie as tie
 use Rattle.p294.proofs.p294_put_text.Reads as reads
 use Rattle.p294.proofs.p294_put_text.Lts as lts
-use Rattle.answers.proofs.give.Reads as give-reads
+use Rattle.p294.proofs.give.Reads as give-reads
 use Rattle.answers.proofs.of_entered.Reads as of-entered-reads
 use Rattle.entry.proofs.put_text.Reads as put-text-reads
 

@@ -2,13 +2,13 @@
 use denote.Ref.{now}
 use mathlib.Core.Path.{_≡_, refl, sym, ap, _∙_}
 use Rattle.answers.specs.Replies.{fieldReply}
-use Rattle.answers.proofs.Steps.{answered}
+use Rattle.p294.proofs.Giving.{answered}
 use borrow.Author.Needs.{needs}
 use Rattle.p294.proofs.p294_read_field.Statement.{statement}
 use Rattle.p294.proofs.p294_read_field.Tie as tie
 use Rattle.p294.proofs.p294_read_field.Reads as reads
 use Rattle.p294.proofs.p294_read_field.Lts as lts
-use Rattle.answers.proofs.give.Reads as give-reads
+use Rattle.p294.proofs.give.Reads as give-reads
 use Rattle.answers.proofs.of_field.Reads as of-field-reads
 use Rattle.field.proofs.read_field.Reads as read-field-reads
 

@@ -2,13 +2,13 @@
 use denote.Ref.{now}
 use mathlib.Core.Path.{_≡_, refl, sym, ap, _∙_}
 use Rattle.answers.specs.Replies.{textReply}
-use Rattle.answers.proofs.Steps.{answered}
+use Rattle.p294.proofs.Giving.{answered}
 use borrow.Author.Needs.{needs}
 use Rattle.p294.proofs.p294_read_text.Statement.{statement}
 use Rattle.p294.proofs.p294_read_text.Tie as tie
 use Rattle.p294.proofs.p294_read_text.Reads as reads
 use Rattle.p294.proofs.p294_read_text.Lts as lts
-use Rattle.answers.proofs.give.Reads as give-reads
+use Rattle.p294.proofs.give.Reads as give-reads
 use Rattle.answers.proofs.of_text.Reads as of-text-reads
 use Rattle.field.proofs.read_field.Reads as read-field-reads
 

@@ -9,8 +9,8 @@ use Rattle.telling.proofs.tell_by.Statement.{statement}
 use Rattle.telling.proofs.tell_by.Tie as tie
 use Rattle.telling.proofs.tell_by.Reads as reads
 use Rattle.telling.proofs.tell_by.Lts as lts
-use Rattle.answer.proofs.spell_broken.Reads as spell-broken-reads
-use Rattle.answer.proofs.spell_refused.Reads as spell-refused-reads
+use Rattle.lines.proofs.spell_broken.Reads as spell-broken-reads
+use Rattle.lines.proofs.spell_refused.Reads as spell-refused-reads
 use Rattle.ties.proofs.check.Reads as check-reads
 
 -- src/lib.rt:19:9

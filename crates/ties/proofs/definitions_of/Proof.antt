@@ -1,7 +1,7 @@
 -- `ties::definitions_of` meets its contract.
 use mathlib.Core.Path.{sym, _∙_}
 use denote.Ref.{now}
-use Rattle.ties.proofs.Answering.{number-refused}
+use Rattle.questions.proofs.Answering.{number-refused}
 use borrow.Author.Needs.{needs}
 use Rattle.ties.proofs.definitions_of.Statement.{statement}
 use Rattle.ties.proofs.definitions_of.Tie as tie

@@ -5,27 +5,22 @@ use lib.IntN.{ℤ}
 use denote.Ref.{now}
 use mir.ValLaws.{toZ-ofZ}
 use mir.Syntax.{w64}
-use Rattle.ties.specs.declared.Key.the-variants.{Whole}
-use Rattle.ties.specs.Questions.{nodeClass, keyOffered, definitionsFor}
+use Rattle.questions.specs.declared.Key.the-variants.{Whole}
+use Rattle.questions.specs.Questions.{nodeClass, definitionsFor}
 use borrow.Author.Needs.{needs}
 use Rattle.ties.proofs.node_definitions.Statement.{statement}
 use Rattle.ties.proofs.node_definitions.Tie as tie
 
-slice-aggregate-definitions-of : tie.Need-slice-aggregate-definitions-of
-slice-aggregate-definitions-of c = search needs
-
-definitions-of-requires : tie.Need-definitions-of-requires
-definitions-of-requires c κs = search needs
+times-defined-requires : tie.Need-times-defined-requires
+times-defined-requires c κs = search needs
 
 returns : tie.Need-returns
-unfolding keyOffered definitionsFor
 returns c =
-    let t = c .before .before in
+    let t = c .before in
     let a = t .before .before .args in
-    c .definitions-of .ensures
+    c .times-defined .ensures
     ∙ ap (λ (z : ℤ). definitionsFor (now (a .header)) nodeClass (Whole z) [])
     (toZ-ofZ w64 (a .node .0) (record { sfits = t .struct-told .given .0 .1 }))
 
 pub node-definitions-spec : {M : Type 1} → statement M
-node-definitions-spec =
-    tie.close (tie.spec slice-aggregate-definitions-of definitions-of-requires returns)
+node-definitions-spec = tie.close (tie.spec times-defined-requires returns)

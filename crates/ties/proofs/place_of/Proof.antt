@@ -1,7 +1,7 @@
 -- `ties::place_of` meets its contract.
 use mathlib.Core.Path.{sym, _∙_}
 use denote.Ref.{now}
-use Rattle.ties.proofs.Answering.{place-refused}
+use Rattle.questions.proofs.Answering.{place-refused}
 use borrow.Author.Needs.{needs}
 use Rattle.ties.proofs.place_of.Statement.{statement}
 use Rattle.ties.proofs.place_of.Tie as tie

@@ -1,0 +1,2 @@
+-- Laws of the numbers given.
+pub mod Giving
