@@ -10,7 +10,6 @@ use lib.Seq.{drop-cons}
 use lib.Dec.{T, leb, ltb}
 use borrow.Author.Tests.{le-leb, lt-ltb, le-ltb}
 use Rattle.lists.specs.Count.{firstFrom}
-use Rattle.spelling.proofs.Absence.{zero-one}
 use Rattle.layout.specs.declared.Field.{Field}
 use Rattle.layout.specs.declared.Found.{Found}
 use Rattle.layout.specs.declared.Found.the-variants.{Is, Nothing}
@@ -21,7 +20,7 @@ use Rattle.layout.proofs.Numbers.{numbered}
 use Rattle.card.specs.declared.Form.{Form}
 use Rattle.card.specs.declared.Verdict.{Verdict}
 use Rattle.card.specs.declared.Verdict.the-variants.{Fine, Offence}
-use Rattle.card.specs.Judging.{filledAt, columnOffence, nextVerdict, verdictFrom}
+use Rattle.card.specs.Judging.{filledAt, gapOffence, columnOffence, nextVerdict, verdictFrom}
 use Rattle.card.proofs.Leftmost.{ends, gap, thenOn, next-field}
 
 -- the fields of a layout stand in order behind its label
@@ -32,17 +31,6 @@ in-order k = go (layoutAt k .fields) refl
     go : (fs : List Field) → layoutAt k .fields ≡ fs → T (inOrder (6 + length (layoutAt k .label)) (layoutAt k .fields))
     go [] q = subst (λ (l : List Field). T (inOrder (6 + length (layoutAt k .label)) l)) (sym q) tt
     go (f ∷ fs) q = of-layout ordered all-ordered k (has-fields k 0 (omega (arith, ap length q)))
-
--- a number below the count names a field
-pub never-nothing : (k n : ℕ) → n < length (fieldsOf k) → fieldOf k (n + 1) ≡ Nothing → ⊥
-unfolding fieldOf
-never-nothing k n h e = apart (sym there ∙ e)
-  where
-    there : fieldOf k (n + 1) ≡ Is (getD (fieldsOf k) (n + 1 - 1) noField)
-    there = rw (le-leb 1 (n + 1) (omega arith), le-leb (n + 1) (length (fieldsOf k)) (omega arith))
-
-    apart : {f : Field} → Is f ≡ Nothing → ⊥
-    apart q = zero-one cc
 
 -- one field more
 module _ (k n c : ℕ) (f : Field) (inside : n < length (fieldsOf k)) (found : fieldOf k (n + 1) ≡ Is f) (t : T (inOrder c (drop n (fieldsOf k)))) where
@@ -83,19 +71,20 @@ module _ (k n c : ℕ) (f : Field) (inside : n < length (fieldsOf k)) (found : f
         walked ∙ ap (λ x. thenOn x (verdictFrom (columnOffence k form s (drop (n + 1) (fieldsOf k))) (f .last + 1))) q ∙ sym q
 
 -- the columns behind the last field
-module _ (k : ℕ) (form : Form) (s : List ℕ) (n c q : ℕ) (over : length (fieldsOf k) ≤ n) (on : c ≤ 81)
-    (is : q ≡ firstFrom (filledAt s) (81 - c) c) where
-  at-end : verdictFrom (columnOffence k form s (drop n (fieldsOf k))) c ≡ cond (ltb q 81) (Offence 7 q) Fine
-  unfolding columnOffence
-  at-end =
+pub at-end : (k : ℕ) (form : Form) (s : List ℕ) (n c : ℕ) → length (fieldsOf k) ≤ n
+    → verdictFrom (columnOffence k form s (drop n (fieldsOf k))) c ≡ verdictFrom (gapOffence s) c
+unfolding columnOffence
+at-end k form s n c over =
+    ap (λ (l : List Field). verdictFrom (columnOffence k form s l) c) (drop-of-length-le (fieldsOf k) {i = n} over)
+
+module _ (s : List ℕ) (c q : ℕ) (on : c ≤ 81) (is : q ≡ firstFrom (filledAt s) (81 - c) c) where
+  rest-is : verdictFrom (gapOffence s) c ≡ cond (ltb q 81) (Offence 7 q) Fine
+  rest-is =
       let e : c + (81 - c) ≡ 81 = omega arith in
-      let none : drop n (fieldsOf k) ≡ [] = drop-of-length-le (fieldsOf k) {i = n} over in
-      ap (λ (l : List Field). verdictFrom (columnOffence k form s l) c) none
-      ∙ gap s (columnOffence k form s []) (81 - c) c (omega arith) (λ j a b. refl)
-      ∙ rw (e, ← is, ends (columnOffence k form s []))
+      gap s (gapOffence s) (81 - c) c (omega arith) (λ j a b. refl) ∙ rw (e, ← is, ends (gapOffence s))
 
-  pub end-fine : 80 < q → verdictFrom (columnOffence k form s (drop n (fieldsOf k))) c ≡ Fine
-  end-fine h = at-end ∙ rw (le-ltb q 81 (omega arith))
+  pub end-fine : 80 < q → verdictFrom (gapOffence s) c ≡ Fine
+  end-fine h = rest-is ∙ rw (le-ltb q 81 (omega arith))
 
-  pub end-filled : q ≤ 80 → verdictFrom (columnOffence k form s (drop n (fieldsOf k))) c ≡ Offence 7 q
-  end-filled h = at-end ∙ rw (lt-ltb q 81 (omega arith))
+  pub end-filled : q ≤ 80 → verdictFrom (gapOffence s) c ≡ Offence 7 q
+  end-filled h = rest-is ∙ rw (lt-ltb q 81 (omega arith))

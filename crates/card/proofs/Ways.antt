@@ -85,19 +85,19 @@ module _ (k : ℕ) (form : Form) (s : List ℕ) (f : Field) (a b : Bool) (unknow
   judged-field h grid g n q = q ∙ sym (tested k form s f ∙ rw (← unknown, ← coordinate, h, ← g))
 
 -- the columns up to a field, and the field
-module _ (k : ℕ) (form : Form) (s : List ℕ) (f : Field) (c q : ℕ) (is : q ≡ firstFrom (filledAt s) (f .first - c) c) where
-  pub next-gap : q < f .first → nextVerdict k form s f c ≡ Offence 7 q
+module _ (k : ℕ) (form : Form) (s : List ℕ) (f : Field) (c q first : ℕ) (begins : first ≡ f .first) (is : q ≡ firstFrom (filledAt s) (first - c) c) where
+  pub next-gap : q < first → nextVerdict k form s f c ≡ Offence 7 q
   unfolding nextVerdict
-  next-gap h = rw (← is, lt-ltb q (f .first) h)
+  next-gap h = rw (← begins, ← is, lt-ltb q first h)
 
-  module _ (past : f .first ≤ q) (n : ℕ) (number : n ≡ fieldOffence k form s f) where
+  module _ (past : first ≤ q) (n : ℕ) (number : n ≡ fieldOffence k form s f) where
     pub next-fine : n ≡ 0 → nextVerdict k form s f c ≡ Fine
     unfolding nextVerdict
-    next-fine h = rw (← is, le-ltb q (f .first) past, ← number, eq-eqb n 0 h)
+    next-fine h = rw (← number, ← begins, ← is, le-ltb q first past, eq-eqb n 0 h)
 
-    pub next-field-bad : (n ≡ 0 → ⊥) → nextVerdict k form s f c ≡ Offence n (f .first)
+    pub next-field-bad : (n ≡ 0 → ⊥) → nextVerdict k form s f c ≡ Offence n first
     unfolding nextVerdict
-    next-field-bad h = rw (← is, le-ltb q (f .first) past, ← number, ne-eqb n 0 h)
+    next-field-bad h = rw (← number, ← begins, ← is, le-ltb q first past, ne-eqb n 0 h)
 
 -- the label, byte by byte
 module _ (k : ℕ) (s : List ℕ) where

@@ -1,7 +1,5 @@
 // One card judged by itself: its first offence and where it stands.
 use codes::Code;
-use layout::Field;
-use layout::Found;
 use layout::Kind;
 ghost use mathlib.Core.Path.{_≡_};
 ghost use Prim.Native.Nat.{_≤_, _-_, _+_};
@@ -9,8 +7,9 @@ ghost use lib.ListN.{length, take};
 ghost use lib.Dec.{ltb};
 ghost use Rattle.lists.specs.Count.{firstFrom};
 ghost use Rattle.layout.specs.Layouts.{labelOf, fieldsOf};
+ghost use Rattle.layout.specs.Packed.{unpack};
 ghost use Rattle.codes.specs.Codes.{codeOf};
-ghost use Rattle.card.specs.Judging.{isCoordinate, isGrid, isUnknown, fieldOffence, filledAt, columnOffence, nextVerdict, labelStands, offenceAt, verdictFrom, verdictOf};
+ghost use Rattle.card.specs.Judging.{isCoordinate, isGrid, isUnknown, fieldOffence, filledAt, gapOffence, columnOffence, nextVerdict, labelStands, offenceAt, verdictFrom, verdictOf};
 
 const CARD: usize = 80;
 
@@ -66,15 +65,14 @@ fn is_unknown(form: Form) -> bool
 }
 
 // The number of a field's offence on a card, 0 for none; none of a coordinate whose form is not known.
-fn field_offence(card: &[u8], layout: usize, f: Field, form: Form) -> usize
-    requires { ⌜ (length (now card) ≡ 80) × (1 ≤ f .first) × (f .first ≤ f .last) × (f .last ≤ 80) ⌝ }
-    ensures { λ r. ⌜ r ≡ fieldOffence layout form (now (card .entry)) f ⌝ }
+fn field_offence(card: &[u8], layout: usize, row: u64, form: Form) -> usize
+    requires { ⌜ (length (now card) ≡ 80) × (1 ≤ unpack row .first) × (unpack row .first ≤ unpack row .last) × (unpack row .last ≤ 80) ⌝ }
+    ensures { λ r. ⌜ r ≡ fieldOffence layout form (now (card .entry)) (unpack row) ⌝ }
 {
-    let kind = f.kind;
-    if is_unknown(form) & is_coordinate(kind) {
+    if is_unknown(form) & is_coordinate(fields::kind_of(row)) {
         return 0;
     }
-    judging::offence(card, layout, f, is_grid(form))
+    offences::offence(card, layout, row, is_grid(form))
 }
 
 // The first column that is not blank, from one up to but not with another; that other where there is none.
@@ -112,10 +110,10 @@ fn label_stands(card: &[u8], layout: usize) -> bool
     requires { ⌜ (length (now card) ≡ 80) × (length (labelOf layout) ≤ 75) ⌝ }
     ensures { λ r. ⌜ r ≡ labelStands layout (now (card .entry)) ⌝ }
 {
-    let width = layout::label_length(layout);
+    let width = labels::label_length(layout);
     let mut i = 0;
     while i < width {
-        if card[CODE + i] != layout::label_byte(layout, i) {
+        if card[CODE + i] != labels::label_byte(layout, i) {
             return false;
         }
         i += 1;
@@ -124,46 +122,52 @@ fn label_stands(card: &[u8], layout: usize) -> bool
 }
 
 // The columns from one up to a field, and then the field.
-fn judge_next(card: &[u8], layout: usize, f: Field, form: Form, from: usize) -> Verdict
-    requires { ⌜ (length (now card) ≡ 80) × (1 ≤ from) × (1 ≤ f .first) × (f .first ≤ f .last) × (f .last ≤ 80) ⌝ }
-    ensures { λ r. ⌜ r ≡ nextVerdict layout form (now (card .entry)) f from ⌝ }
+fn judge_next(card: &[u8], layout: usize, row: u64, form: Form, from: usize) -> Verdict
+    requires { ⌜ (length (now card) ≡ 80) × (1 ≤ from) × (1 ≤ unpack row .first) × (unpack row .first ≤ unpack row .last) × (unpack row .last ≤ 80) ⌝ }
+    ensures { λ r. ⌜ r ≡ nextVerdict layout form (now (card .entry)) (unpack row) from ⌝ }
 {
-    let first = f.first;
+    let first = fields::first_of(row);
     let filled = first_filled(card, from, first);
     if filled < first {
         return Verdict::Offence(7, filled);
     }
-    let number = field_offence(card, layout, f, form);
+    let number = field_offence(card, layout, row, form);
     if number == 0 {
         return Verdict::Fine;
     }
     Verdict::Offence(number, first)
 }
 
-// The columns behind the label: field by field, each with the columns before it, and the columns behind the last.
+// The columns behind the last field.
+fn judge_rest(card: &[u8], from: usize) -> Verdict
+    requires { ⌜ (length (now card) ≡ 80) × (1 ≤ from) × (from ≤ 81) ⌝ }
+    ensures { λ r. ⌜ r ≡ verdictFrom (gapOffence (now (card .entry))) from ⌝ }
+{
+    if is_blank(card, from) {
+        return Verdict::Fine;
+    }
+    Verdict::Offence(7, first_filled(card, from, CARD + 1))
+}
+
+// The columns behind the label: field by field, each with the columns before it, and then the rest.
 fn judge_columns(card: &[u8], layout: usize, form: Form, from: usize) -> Verdict
     requires { ⌜ (length (now card) ≡ 80) × (from ≡ 6 + length (labelOf layout)) ⌝ }
     ensures { λ r. ⌜ r ≡ verdictFrom (columnOffence layout form (now (card .entry)) (fieldsOf layout)) from ⌝ }
 {
-    let count = layout::fields_in(layout);
     let mut column = from;
     let mut number = 0;
-    while number < count {
-        number += 1;
-        let found = layout::field_of(layout, number);
-        let Found::Is(f) = found else {
-            return Verdict::Fine;
-        };
-        let next = judge_next(card, layout, f, form, column);
+    loop {
+        let row = layout::row_of(layout, number + 1);
+        if row == 0 {
+            return judge_rest(card, column);
+        }
+        let next = judge_next(card, layout, row, form, column);
         let Verdict::Fine = next else {
             return next;
         };
-        column = f.last + 1;
+        column = fields::last_of(row) + 1;
+        number += 1;
     }
-    if is_blank(card, column) {
-        return Verdict::Fine;
-    }
-    Verdict::Offence(7, first_filled(card, column, CARD + 1))
 }
 
 // A card of a read code: its label, and then its columns.
@@ -174,7 +178,7 @@ fn judge_read(card: &[u8], layout: usize, form: Form) -> Verdict
     if !label_stands(card, layout) {
         return Verdict::Offence(8, 6);
     }
-    let from = 6 + layout::label_length(layout);
+    let from = 6 + labels::label_length(layout);
     judge_columns(card, layout, form, from)
 }
 

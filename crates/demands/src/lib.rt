@@ -15,7 +15,7 @@ fn push_with(out: &mut [u8], n: usize, words: &[u8], number: u64) -> usize {
 
 // Whether the field with a number begins in a column.
 fn begins_at(layout: usize, number: usize, column: usize) -> bool {
-    let found = layout::field_of(layout, number);
+    let found = fields::field_of(layout, number);
     let Found::Is(f) = found else {
         return false;
     };
@@ -24,7 +24,7 @@ fn begins_at(layout: usize, number: usize, column: usize) -> bool {
 
 // The number of the field that begins in a column, 0 where there is none.
 fn number_at(layout: usize, column: usize) -> usize {
-    let count = layout::fields_in(layout);
+    let count = fields::fields_in(layout);
     let mut n = 0;
     while n < count {
         n += 1;
@@ -256,7 +256,7 @@ pub fn push_field(
     column: usize,
 ) -> usize {
     let layout = forms::layout_of(card);
-    let found = layout::field_of(layout, number_at(layout, column));
+    let found = fields::field_of(layout, number_at(layout, column));
     let Found::Is(f) = found else {
         return n;
     };

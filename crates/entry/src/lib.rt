@@ -60,7 +60,10 @@ fn is_within(f: Field, v: Value) -> bool
     ensures { λ r. ⌜ r ≡ within f v ⌝ }
 {
     match v {
-        Value::Whole(z) => ranges::in_range(f, z),
+        Value::Whole(z) => {
+            let range = f.range;
+            ranges::in_range(range, z)
+        }
         _ => true,
     }
 }
@@ -70,7 +73,7 @@ fn other_second(card: &[u8], layout: usize, number: usize) -> bool
     requires { ⌜ length (now card) ≡ 80 ⌝ }
     ensures { λ r. ⌜ r ≡ otherSecond (now (card .entry)) number 1 (fieldsOf layout) ⌝ }
 {
-    let count = layout::fields_in(layout);
+    let count = fields::fields_in(layout);
     let mut n = 0;
     while n < count {
         n += 1;

@@ -11,10 +11,7 @@ use Rattle.spelling.specs.declared.Reading.{Reading}
 use Rattle.spelling.specs.declared.Reading.the-variants as reading
 use Rattle.spelling.specs.declared.Spelling.{Spelling}
 use Rattle.spelling.specs.declared.Spelling.the-variants as spelled
-use Rattle.position.specs.declared.Axis.{Axis}
-use Rattle.position.specs.Angles.{angleOf}
-use Rattle.grid.specs.Grid.{gridOf}
-use Rattle.spelling.specs.Reading.{refusalOf, readingOf, angleReading, decimalReading}
+use Rattle.spelling.specs.Reading.{refusalOf, readingOf}
 use Rattle.layout.specs.declared.Kind.{Kind}
 use Rattle.layout.specs.declared.Kind.the-variants as kind
 use Rattle.layout.specs.declared.Field.{Field}
@@ -102,26 +99,6 @@ heldOf needed f (reading.Held v) = valueOf needed f v
 abbrev pub numberOf : Judged → ℕ
 numberOf (Is v) = 0
 numberOf (Not n) = n
-
--- the offence of a field that is needed, by what its columns read as
-unfoldable pub offenceIn : Field → Reading → ℕ
-offenceIn f r = numberOf (heldOf true f r)
-
--- the same of a field that has no range: 9, 10, 11 or none
-abbrev pub readOffence : Reading → ℕ
-readOffence reading.Malformed = 9
-readOffence reading.OutOfRange = 10
-readOffence (reading.Held Absent) = 11
-readOffence (reading.Held (Whole z)) = 0
-readOffence (reading.Held (Decimal d)) = 0
-readOffence (reading.Held (Angle z)) = 0
-readOffence (reading.Held (Date d)) = 0
-readOffence (reading.Held (Text c)) = 0
-
--- a coordinate read in form 0, or 1 where grid is true
-abbrev pub coordinateReading : Axis → Bool → List ℕ → Reading
-coordinateReading a false s = angleReading (angleOf a s)
-coordinateReading a true s = decimalReading (gridOf a s)
 
 -- what a field of a card says, or the number of its offence
 unfoldable pub judgedOf : ℕ → List ℕ → Field → Bool → Judged

@@ -1,11 +1,7 @@
 // One field of a card, judged: its columns read by its spelling, and held against its need and its range.
-use date::Dated;
 use layout::Field;
 use layout::Found;
 use layout::Kind;
-use number::Number;
-use position::Angled;
-use position::Axis;
 use spelling::Columns;
 use spelling::Reading;
 use spelling::Spelling;
@@ -13,20 +9,8 @@ use spelling::Value;
 ghost use mathlib.Core.Path.{_≡_};
 ghost use Prim.Native.Nat.{_≤_, _-_};
 ghost use lib.ListN.{length, take, drop};
-ghost use Rattle.spelling.specs.Reading.{textReading, wholeReading, decimalReading, dateReading, angleReading, readingOf};
 ghost use Rattle.layout.specs.Layouts.{fieldsOf, fieldOf};
-ghost use Rattle.judging.specs.Fields.{isBlank, spellingOf, secondAt, secondBy, anySecond, neededOn, textLast, readLast, valueOf, heldOf, judgedOf, numberOf, offenceIn, readOffence, coordinateReading};
-
-const BLANK: u8 = 32;
-
-// The offences of a field: none, badly formed, out of range, blank though needed.
-const FINE: usize = 0;
-
-const MALFORMED: usize = 9;
-
-const OUTSIDE: usize = 10;
-
-const MISSING: usize = 11;
+ghost use Rattle.judging.specs.Fields.{isBlank, spellingOf, secondAt, secondBy, anySecond, neededOn, textLast, readLast, valueOf, heldOf, judgedOf};
 
 // What a field says, or the number of its offence.
 pub enum Judged {
@@ -92,7 +76,7 @@ pub fn second_by(card: &[u8], layout: usize, number: usize) -> bool
     requires { ⌜ length (now card) ≡ 80 ⌝ }
     ensures { λ r. ⌜ r ≡ secondBy (now (card .entry)) (fieldOf layout number) ⌝ }
 {
-    let found = layout::field_of(layout, number);
+    let found = fields::field_of(layout, number);
     let Found::Is(f) = found else {
         return false;
     };
@@ -104,7 +88,7 @@ fn any_second(card: &[u8], layout: usize) -> bool
     requires { ⌜ length (now card) ≡ 80 ⌝ }
     ensures { λ r. ⌜ r ≡ anySecond (now (card .entry)) (fieldsOf layout) ⌝ }
 {
-    let count = layout::fields_in(layout);
+    let count = fields::fields_in(layout);
     let mut n = 0;
     while n < count {
         n += 1;
@@ -116,7 +100,7 @@ fn any_second(card: &[u8], layout: usize) -> bool
 }
 
 // Whether a field is needed on the card as it stands.
-fn needed_on(card: &[u8], layout: usize, f: Field) -> bool
+pub fn needed_on(card: &[u8], layout: usize, f: Field) -> bool
     requires { ⌜ length (now card) ≡ 80 ⌝ }
     ensures { λ r. ⌜ r ≡ neededOn layout (now (card .entry)) f ⌝ }
 {
@@ -142,7 +126,8 @@ fn value_of(needed: bool, f: Field, v: Value) -> Judged
             Judged::Is(Value::Absent)
         }
         Value::Whole(z) => {
-            if ranges::in_range(f, z) {
+            let range = f.range;
+            if ranges::in_range(range, z) {
                 return Judged::Is(Value::Whole(z));
             }
             Judged::Not(10)
@@ -180,119 +165,4 @@ pub fn judge(card: &[u8], layout: usize, f: Field, grid: bool) -> Judged
     let kind = f.kind;
     let reading = spelling::read(columns(card, first, last), spelling_of(kind, grid));
     held_of(needed_on(card, layout, f), f, reading)
-}
-
-// The offence of a text that is needed; lead says whether it may begin with a blank.
-fn text_offence(s: &[u8], lead: bool) -> usize
-    requires { ⌜ 1 ≤ length (now s) ⌝ }
-    ensures { λ r. ⌜ r ≡ readOffence (textReading lead (now (s .entry))) ⌝ }
-{
-    if s[0] != BLANK {
-        return FINE;
-    }
-    if is_blank(s) {
-        return MISSING;
-    }
-    if lead {
-        return FINE;
-    }
-    MALFORMED
-}
-
-// The offence of a whole number that is needed, by its field's range.
-fn whole_offence(n: Number, f: Field) -> usize
-    ensures { λ r. ⌜ r ≡ offenceIn f (wholeReading n) ⌝ }
-{
-    match n {
-        Number::Absent => MISSING,
-        Number::Malformed => MALFORMED,
-        Number::OutOfRange => OUTSIDE,
-        Number::Held(d) => {
-            let units = d.units;
-            if ranges::in_range(f, units) {
-                return FINE;
-            }
-            OUTSIDE
-        }
-    }
-}
-
-// The offence of a decimal that is needed.
-fn decimal_offence(n: Number) -> usize
-    ensures { λ r. ⌜ r ≡ readOffence (decimalReading n) ⌝ }
-{
-    match n {
-        Number::Absent => MISSING,
-        Number::Malformed => MALFORMED,
-        Number::OutOfRange => OUTSIDE,
-        Number::Held(_) => FINE,
-    }
-}
-
-// The offence of a date that is needed.
-fn date_offence(d: Dated) -> usize
-    ensures { λ r. ⌜ r ≡ readOffence (dateReading d) ⌝ }
-{
-    match d {
-        Dated::Absent => MISSING,
-        Dated::Malformed => MALFORMED,
-        Dated::OutOfRange => OUTSIDE,
-        Dated::Held(_) => FINE,
-    }
-}
-
-// The offence of an angle that is needed.
-fn angle_offence(a: Angled) -> usize
-    ensures { λ r. ⌜ r ≡ readOffence (angleReading a) ⌝ }
-{
-    match a {
-        Angled::Absent => MISSING,
-        Angled::Malformed => MALFORMED,
-        Angled::OutOfRange => OUTSIDE,
-        Angled::Held(_) => FINE,
-    }
-}
-
-// The offence of a coordinate that is needed, in form 1 where grid is true.
-fn coordinate_offence(s: &[u8], axis: Axis, grid: bool) -> usize
-    ensures { λ r. ⌜ r ≡ readOffence (coordinateReading axis grid (now (s .entry))) ⌝ }
-{
-    if grid {
-        return decimal_offence(grid::read_grid(s, axis));
-    }
-    angle_offence(position::read_angle(s, axis))
-}
-
-// The offence of a field that is needed, by its columns.
-fn offence_in(s: &[u8], f: Field, grid: bool) -> usize
-    requires { ⌜ 1 ≤ length (now s) ⌝ }
-    ensures { λ r. ⌜ r ≡ offenceIn f (readingOf (spellingOf (f .kind) grid) (now (s .entry))) ⌝ }
-{
-    let kind = f.kind;
-    match kind {
-        Kind::Text => text_offence(s, false),
-        Kind::Comment => text_offence(s, true),
-        Kind::Whole => whole_offence(number::read_number(s, false), f),
-        Kind::Decimal => decimal_offence(number::read_number(s, true)),
-        Kind::Date => date_offence(date::read_date(s)),
-        Kind::Latitude => coordinate_offence(s, Axis::Y, grid),
-        Kind::Longitude => coordinate_offence(s, Axis::X, grid),
-    }
-}
-
-// The number of a field's offence on a card, 0 for none: `judge` where the value is not wanted.
-pub fn offence(card: &[u8], layout: usize, f: Field, grid: bool) -> usize
-    requires { ⌜ (length (now card) ≡ 80) × (1 ≤ f .first) × (f .first ≤ f .last) × (f .last ≤ 80) ⌝ }
-    ensures { λ r. ⌜ r ≡ numberOf (judgedOf layout (now (card .entry)) f grid) ⌝ }
-{
-    let first = f.first;
-    let last = f.last;
-    let number = offence_in(columns(card, first, last), f, grid);
-    if number != MISSING {
-        return number;
-    }
-    if needed_on(card, layout, f) {
-        return MISSING;
-    }
-    FINE
 }

@@ -4,5 +4,6 @@ pub mod Places
 pub mod Lines
 pub mod Columns
 pub mod Numbers
+pub mod Numbering
 pub mod Sets
 pub mod Labels

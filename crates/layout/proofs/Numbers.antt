@@ -3,7 +3,7 @@ use mathlib.Core.Path.{_≡_, refl, sym, _∙_, ap, subst}
 use mathlib.Core.Bool.{Bool, true, false, cond, _&&_}
 use Prim.Native.Nat.{ℕ, _+_, _-_, _<_, _≤_}
 use native.Mathlib.Omega.{arith}
-use borrow.Author.Tests.{leb-true}
+use borrow.Author.Tests.{leb-true, le-leb}
 use lib.Dec.{T, leb}
 use lib.ListN.{length, getD}
 use Rattle.layout.specs.declared.Field.{Field}
@@ -43,6 +43,17 @@ module _ (k n : ℕ) (f : Field) (e : fieldOf k n ≡ Is f) where
   -- a range other than any is one of a whole number
   pub found-ranged : T (ranged (f .kind) (f .range))
   found-ranged = subst (λ (g : Field). T (ranged (g .kind) (g .range))) (numbered k n f e .is) (whole-only k (n - 1) there)
+
+-- a number below the count names a field
+pub never-nothing : (k n : ℕ) → n < length (fieldsOf k) → fieldOf k (n + 1) ≡ Nothing → ⊥
+unfolding fieldOf
+never-nothing k n h e = apart (sym there ∙ e)
+  where
+    there : fieldOf k (n + 1) ≡ Is (getD (fieldsOf k) (n + 1 - 1) noField)
+    there = rw (le-leb 1 (n + 1) (omega arith), le-leb (n + 1) (length (fieldsOf k)) (omega arith))
+
+    apart : {f : Field} → Is f ≡ Nothing → ⊥
+    apart q = let z : _≡_ {A = ℕ} 0 1 = cc in omega arith
 
 -- a field ends before one with a higher number begins
 pub found-apart : (k m n : ℕ) (f g : Field) → fieldOf k m ≡ Is f → fieldOf k n ≡ Is g → m < n → f .last < g .first

@@ -1,16 +1,14 @@
-// The layout table as the code holds it: one line a field, one line a label. The check compares all of it with the specification.
+// The layout table as the code holds it: one line a field. The check compares all of it with the specification.
 // A `match` whose arms are constants becomes constant data; an array would be written out anew wherever it is used.
 ghost use mathlib.Core.Path.{_≡_};
-ghost use Rattle.layout.specs.Packed.{rowOf, labelRow};
+ghost use Rattle.layout.specs.Packed.{rowOf};
 
 pub const LAYOUTS: usize = 26;
-
-// The columns of the longest label.
-pub const LABEL: usize = 23;
 
 // A field as one number: its digits, read as decimal ones, are its kind, its mark, its first and its last column. The kinds:
 // a text, c comment, 1 whole number, 2 decimal, d date, e latitude, f longitude. The mark: 1 needed, 2 of a second set, 3 both.
 // A range stands before these: 1 at least the first number, 2 from the first to the second, 3 one of the three.
+// The answer is 0 where a layout has no field with the number.
 pub fn row_of(layout: usize, number: usize) -> u64
     ensures { λ r. ⌜ r ≡ rowOf layout number ⌝ }
 {
@@ -250,23 +248,5 @@ pub fn row_of(layout: usize, number: usize) -> u64
             _ => 0,
         },
         _ => 0,
-    }
-}
-
-// A layout's label and the blanks behind it.
-pub fn label_row(layout: usize) -> [u8; LABEL]
-    ensures { λ r. ⌜ r ≡ labelRow layout ⌝ }
-{
-    match layout {
-        0 => *b"Line Name:             ",
-        1 => *b"Project Name:          ",
-        2 => *b"Project Description:   ",
-        3 => *b"Media Specification:   ",
-        4 => *b"Client:                ",
-        5 => *b"Geophysical Contractor:",
-        6 => *b"Positioning Contractor:",
-        7 => *b"Processing Contractor: ",
-        8 => *b"Line Parameters Vessel:",
-        _ => [b' '; LABEL],
     }
 }

@@ -49,7 +49,7 @@ fn lay_label(columns: &mut [u8], layout: usize)
 {
     let mut i = 0;
     while i < columns.len() {
-        columns[i] = layout::label_byte(layout, i);
+        columns[i] = labels::label_byte(layout, i);
         i += 1;
     }
 }

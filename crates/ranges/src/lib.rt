@@ -1,5 +1,4 @@
 // Whether a whole number is one of the values that a field may have.
-use layout::Field;
 use layout::Range;
 ghost use mathlib.Core.Path.{_≡_};
 ghost use Rattle.layout.specs.Layouts.{isAny};
@@ -28,10 +27,9 @@ fn allows_size(range: Range, value: u64) -> bool
 }
 
 // Whether a whole number is one of the values that a field may have.
-pub fn in_range(field: Field, value: i64) -> bool
-    ensures { λ r. ⌜ r ≡ inRange (field .range) value ⌝ }
+pub fn in_range(range: Range, value: i64) -> bool
+    ensures { λ r. ⌜ r ≡ inRange range value ⌝ }
 {
-    let range = field.range;
     if value < 0 {
         return is_any(range);
     }

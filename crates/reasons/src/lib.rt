@@ -128,11 +128,11 @@ fn push_gap(out: &mut [u8], n: usize, card: &[u8], column: usize) -> usize {
 
 // Puts the label of a layout.
 fn push_label(out: &mut [u8], n: usize, layout: usize) -> usize {
-    let size = layout::label_length(layout);
+    let size = labels::label_length(layout);
     let mut end = n;
     let mut i = 0;
     while i < size {
-        end = sheet::push(out, end, layout::label_byte(layout, i));
+        end = sheet::push(out, end, labels::label_byte(layout, i));
         i += 1;
     }
     end

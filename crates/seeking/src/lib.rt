@@ -74,7 +74,7 @@ pub fn first_bad(s: &[u8]) -> usize
 fn under_form(layout: usize, number: usize, form: usize) -> Sought
     ensures { λ r. ⌜ r ≡ underForm layout form (fieldOf layout number) ⌝ }
 {
-    let found = layout::field_of(layout, number);
+    let found = fields::field_of(layout, number);
     match found {
         Found::Nothing => refused(13, 0, 0),
         Found::Is(f) => {

@@ -1,6 +1,8 @@
 -- `card::field_offence` meets its contract.
 use denote.Ref.{now}
-use mathlib.Core.Path.{sym}
+use mathlib.Core.Path.{sym, ap, _∙_}
+use Rattle.layout.specs.Packed.{unpack}
+use Rattle.card.specs.Judging.{isCoordinate}
 use Rattle.card.proofs.Ways.{unread, judged-field}
 use borrow.Author.Needs.{needs}
 use Rattle.card.proofs.field_offence.Statement.{statement}
@@ -9,11 +11,16 @@ use Rattle.card.proofs.field_offence.Tie as tie
 is-unknown-requires : tie.Need-is-unknown-requires
 is-unknown-requires c κs = search needs
 
+kind-of-requires : tie.Need-kind-of-requires
+kind-of-requires c κs = search needs
+
 is-coordinate-requires : tie.Need-is-coordinate-requires
 is-coordinate-requires c κs = search needs
 
 returns : tie.Need-returns
-returns c = sym (unread _ (c .before .before .before .before .args .form) (now (c .before .before .before .before .args .card)) (c .before .before .before .before .args .f) _ _ (c .before .before .is-unknown .ensures) (c .before .is-coordinate .ensures) (c .if1 .taken))
+returns c =
+    let a = c .before .before .before .before .before .args in
+    sym (unread _ (a .form) (now (a .card)) (unpack (a .row)) _ _ (c .before .before .before .is-unknown .ensures) (c .before .is-coordinate .ensures ∙ ap isCoordinate (c .before .before .kind-of .ensures)) (c .if1 .taken))
 
 is-grid-requires : tie.Need-is-grid-requires
 is-grid-requires c κs = search needs
@@ -22,13 +29,16 @@ offence-requires : tie.Need-offence-requires
 offence-requires c κs = search needs
 
 returns-2 : tie.Need-returns-2
-returns-2 c = judged-field _ (c .before .before .before .before .before .before .args .form) (now (c .before .before .before .before .before .before .args .card)) (c .before .before .before .before .before .before .args .f) _ _ (c .before .before .before .before .is-unknown .ensures) (c .before .before .before .is-coordinate .ensures) (c .before .before .if1 .left) _ (c .before .is-grid .ensures) _ (c .offence .ensures)
+returns-2 c =
+    let a = c .before .before .before .before .before .before .before .args in
+    judged-field _ (a .form) (now (a .card)) (unpack (a .row)) _ _ (c .before .before .before .before .before .is-unknown .ensures) (c .before .before .before .is-coordinate .ensures ∙ ap isCoordinate (c .before .before .before .before .kind-of .ensures)) (c .before .before .if1 .left) _ (c .before .is-grid .ensures) _ (c .offence .ensures)
 
 pub field-offence-spec : {M : Type 1} → statement M
 field-offence-spec =
     tie.close
     (tie.spec
     is-unknown-requires
+    kind-of-requires
     is-coordinate-requires
     returns
     is-grid-requires

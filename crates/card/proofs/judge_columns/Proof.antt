@@ -5,90 +5,109 @@ use Prim.Native.Nat.{_≤_, _-_}
 use lib.ListN.{length, drop}
 use lib.Dec.{T}
 use Rattle.layout.proofs.Columns.{inOrder}
+use Rattle.layout.proofs.Numbering.{row-there, row-inside, row-past, fields-few}
 use Rattle.layout.specs.Layouts.{fieldsOf}
+use Rattle.layout.specs.Packed.{unpack}
 use Rattle.card.specs.Judging.{columnOffence, verdictFrom}
-use Rattle.card.proofs.Walked.{in-order, never-nothing, stands, onward, walks-on, halts, end-fine, end-filled}
+use Rattle.card.proofs.Walked.{in-order, stands, onward, walks-on, halts, at-end}
 use Rattle.layout.proofs.Labels.{label-fits}
-use borrow.Author.Tests.{ltb-true}
-use Rattle.card.proofs.Ways.{not-past}
 use native.Mathlib.Omega.{arith}
 use borrow.Author.Needs.{needs}
 use Rattle.card.proofs.judge_columns.Statement.{statement}
 use Rattle.card.proofs.judge_columns.Tie as tie
 
 abbrev Inv-loop : tie.InvT-loop
-Inv-loop card layout form from count column₀ number₀ column number = (number ≤ length (fieldsOf layout)) × (1 ≤ column) × (column ≤ 81) × T (inOrder column (drop number (fieldsOf layout))) × (verdictFrom (columnOffence layout form card (fieldsOf layout)) from ≡ verdictFrom (columnOffence layout form card (drop number (fieldsOf layout))) column)
+Inv-loop card layout form from column₀ number₀ column number = (number ≤ length (fieldsOf layout)) × (1 ≤ column) × (column ≤ 81) × T (inOrder column (drop number (fieldsOf layout))) × (verdictFrom (columnOffence layout form card (fieldsOf layout)) from ≡ verdictFrom (columnOffence layout form card (drop number (fieldsOf layout))) column)
 
 abbrev μ-loop : tie.MeasureT-loop
-μ-loop card layout form from count column₀ number₀ column number = count - number
-
-fields-in-requires : tie.Need-fields-in-requires Inv-loop μ-loop
-fields-in-requires c κs = search needs
+μ-loop card layout form from column₀ number₀ column number = length (fieldsOf layout) - number
 
 loop-holds : tie.Need-loop-holds Inv-loop μ-loop
-loop-holds c = let p = c .before .before .pre .1 in (omega arith, omega arith, omega (arith, p, label-fits (c .before .before .args .layout)), subst (λ j. T (inOrder j (fieldsOf (c .before .before .args .layout)))) (sym p) (in-order (c .before .before .args .layout)), refl)
+loop-holds c = let p = c .before .pre .1 in (omega arith, omega arith, omega (arith, p, label-fits (c .before .args .layout)), subst (λ j. T (inOrder j (fieldsOf (c .before .args .layout)))) (sym p) (in-order (c .before .args .layout)), refl)
 
-add-number : tie.Need-add-number Inv-loop μ-loop
-add-number c = search needs
+add-row-of : tie.Need-add-row-of Inv-loop μ-loop
+add-row-of c = omega (arith, c .loop .inv .0, fields-few (c .before .before .args .layout))
 
-field-of-requires : tie.Need-field-of-requires Inv-loop μ-loop
-field-of-requires c κs = search needs
+row-of-requires : tie.Need-row-of-requires Inv-loop μ-loop
+row-of-requires c κs = search needs
 
-enum-known-found : tie.Need-enum-known-found Inv-loop μ-loop
-enum-known-found c = search needs
+judge-rest-requires : tie.Need-judge-rest-requires Inv-loop μ-loop
+judge-rest-requires c κs = (c .before .before .before .before .pre .0, c .before .before .loop .inv .1, c .before .before .loop .inv .2)
+
+returns : tie.Need-returns Inv-loop μ-loop
+returns c =
+    let b = c .before .before .before .loop in
+    let a = c .before .before .before .before .before .args in
+    c .judge-rest .ensures ∙ sym (b .inv .4 ∙ at-end (a .layout) (a .form) (now (a .card)) (b .number) (b .column) (row-past (a .layout) (b .number) _ (c .before .before .row-of .ensures) (c .before .if1 .taken)))
+
+judge-next-requires : tie.Need-judge-next-requires Inv-loop μ-loop
+judge-next-requires c κs =
+    let b = c .before .before .loop in
+    let k = c .before .before .before .before .args .layout in
+    let r = c .before .row-of .ensures in
+    let z = c .if1 .left in
+    let i = row-inside k (b .number) _ r z in
+    let e = row-there k (b .number) _ r z in
+    let l = stands k (b .number) (b .column) (unpack (c .before .row-of .result)) i e (b .inv .3) in
+    (c .before .before .before .before .pre .0, b .inv .1, omega (arith, b .inv .1, l .after), l .forward, l .on-card)
 
 enum-told : tie.Need-enum-told Inv-loop μ-loop
 enum-told c = search needs
 
-returns : tie.Need-returns Inv-loop μ-loop
-returns c = absurd (never-nothing (c .before .before .before .before .before .before .before .args .layout) (c .before .before .before .before .loop .number) (omega (arith, c .before .before .before .before .before .fields-in .ensures)) (sym (c .before .before .field-of .ensures) ∙ c .enum-told .given .1))
-
-judge-next-requires : tie.Need-judge-next-requires Inv-loop μ-loop
-judge-next-requires c κs = let b = c .before .before .before .before .before .loop in let l = stands (c .before .before .before .before .before .before .before .before .args .layout) (b .number) (b .column) (c .before .found .given .0 .0) (omega (arith, c .before .before .before .before .before .before .fields-in .ensures)) (sym (c .before .before .before .field-of .ensures) ∙ c .before .found .given .1) (b .inv .3) in (c .before .before .before .before .before .before .before .before .pre .0, b .inv .1, omega (arith, b .inv .1, l .after), l .forward, l .on-card)
-
 enum-told-2 : tie.Need-enum-told-2 Inv-loop μ-loop
 enum-told-2 c = search needs
 
-enum-told-3 : tie.Need-enum-told-3 Inv-loop μ-loop
-enum-told-3 c = search needs
-
 returns-2 : tie.Need-returns-2 Inv-loop μ-loop
-returns-2 c = let b = c .before .before .before .before .before .before .before .before .loop in sym (b .inv .4 ∙ halts (c .before .before .before .before .before .before .before .before .before .before .before .args .layout) (b .number) (b .column) (c .before .before .before .before .found .given .0 .0) (omega (arith, c .before .before .before .before .before .before .before .before .before .fields-in .ensures)) (sym (c .before .before .before .before .before .before .field-of .ensures) ∙ c .before .before .before .before .found .given .1) (b .inv .3) (c .before .before .before .before .before .before .before .before .before .before .before .args .form) (now (c .before .before .before .before .before .before .before .before .before .before .before .args .card)) (c .before .before .judge-next .result) (c .before .before .judge-next .ensures) _ _ (c .enum-told3 .given .1))
+returns-2 c =
+    let b = c .before .before .before .before .before .loop in
+    let k = c .before .before .before .before .before .before .before .args .layout in
+    let r = c .before .before .before .before .row-of .ensures in
+    let z = c .before .before .before .if1 .left in
+    let i = row-inside k (b .number) _ r z in
+    let e = row-there k (b .number) _ r z in
+    let a = c .before .before .before .before .before .before .before .args in
+    sym (b .inv .4 ∙ halts k (b .number) (b .column) (unpack (c .before .before .before .before .row-of .result)) i e (b .inv .3) (a .form) (now (a .card)) (c .before .before .judge-next .result) (c .before .before .judge-next .ensures) _ _ (c .enum-told2 .given .1))
+
+last-of-requires : tie.Need-last-of-requires Inv-loop μ-loop
+last-of-requires c κs = search needs
 
 add-column : tie.Need-add-column Inv-loop μ-loop
-add-column c = let b = c .before .before .before .before .before .before .before .before .before .loop in let l = stands (c .before .before .before .before .before .before .before .before .before .before .before .before .args .layout) (b .number) (b .column) (c .before .before .before .before .before .found .given .0 .0) (omega (arith, c .before .before .before .before .before .before .before .before .before .before .fields-in .ensures)) (sym (c .before .before .before .before .before .before .before .field-of .ensures) ∙ c .before .before .before .before .before .found .given .1) (b .inv .3) in omega (arith, l .on-card)
+add-column c =
+    let b = c .before .before .before .before .before .before .loop in
+    let k = c .before .before .before .before .before .before .before .before .args .layout in
+    let r = c .before .before .before .before .before .row-of .ensures in
+    let z = c .before .before .before .before .if1 .left in
+    let i = row-inside k (b .number) _ r z in
+    let e = row-there k (b .number) _ r z in
+    omega (arith, c .last-of .ensures, stands k (b .number) (b .column) (unpack (c .before .before .before .before .before .row-of .result)) i e (b .inv .3) .on-card)
+
+add-number : tie.Need-add-number Inv-loop μ-loop
+add-number c = omega (arith, c .before .before .before .before .before .before .loop .inv .0, fields-few (c .before .before .before .before .before .before .before .before .args .layout))
 
 loop-less : tie.Need-loop-less Inv-loop μ-loop
-loop-less c = search needs
+loop-less c =
+    let b = c .before .before .before .before .before .before .loop in
+    let k = c .before .before .before .before .before .before .before .before .args .layout in
+    let r = c .before .before .before .before .before .row-of .ensures in
+    let z = c .before .before .before .before .if1 .left in
+    let i = row-inside k (b .number) _ r z in
+    let e = row-there k (b .number) _ r z in
+    omega (arith, i)
 
 loop-again : tie.Need-loop-again Inv-loop μ-loop
 loop-again c =
-    let b = c .before .before .before .before .before .before .before .before .before .loop in
-    let k = c .before .before .before .before .before .before .before .before .before .before .before .before .args .layout in
-    let f = c .before .before .before .before .before .found .given .0 .0 in
-    let e = sym (c .before .before .before .before .before .before .before .field-of .ensures) ∙ c .before .before .before .before .before .found .given .1 in
-    (omega (arith, c .before .before .before .before .before .before .before .before .before .before .fields-in .ensures), omega arith, omega (arith, stands k (b .number) (b .column) f (omega (arith, c .before .before .before .before .before .before .before .before .before .before .fields-in .ensures)) e (b .inv .3) .on-card), onward k (b .number) (b .column) f (omega (arith, c .before .before .before .before .before .before .before .before .before .before .fields-in .ensures)) e (b .inv .3), b .inv .4 ∙ walks-on k (b .number) (b .column) f (omega (arith, c .before .before .before .before .before .before .before .before .before .before .fields-in .ensures)) e (b .inv .3) (c .before .before .before .before .before .before .before .before .before .before .before .before .args .form) (now (c .before .before .before .before .before .before .before .before .before .before .before .before .args .card)) (c .before .before .before .judge-next .result) (c .before .before .before .judge-next .ensures) (c .before .enum-told2 .given .1))
-
-is-blank-requires : tie.Need-is-blank-requires Inv-loop μ-loop
-is-blank-requires c κs = search needs
-
-returns-3 : tie.Need-returns-3 Inv-loop μ-loop
-returns-3 c =
-    let b = c .before .before .before .loop in
-    let a = c .before .before .before .before .before .before .args in
-    sym (b .inv .4 ∙ end-fine (a .layout) (a .form) (now (a .card)) (b .number) (b .column) _ (omega (arith, c .before .before .before .before .fields-in .ensures)) (b .inv .2) refl (ltb-true 80 _ (sym (c .before .is-blank .ensures) ∙ c .if1 .taken)))
-
-add-first-filled : tie.Need-add-first-filled Inv-loop μ-loop
-add-first-filled c = search needs
-
-first-filled-requires : tie.Need-first-filled-requires Inv-loop μ-loop
-first-filled-requires c κs = search needs
-
-returns-4 : tie.Need-returns-4 Inv-loop μ-loop
-returns-4 c =
-    let b = c .before .before .before .before .loop in
-    let a = c .before .before .before .before .before .before .before .args in
-    sym (b .inv .4 ∙ end-filled (a .layout) (a .form) (now (a .card)) (b .number) (b .column) (c .first-filled .result) (omega (arith, c .before .before .before .before .before .fields-in .ensures)) (b .inv .2) (c .first-filled .ensures) (not-past _ _ (c .first-filled .ensures) (sym (c .before .before .is-blank .ensures) ∙ c .before .if1 .left)))
+    let b = c .before .before .before .before .before .before .loop in
+    let k = c .before .before .before .before .before .before .before .before .args .layout in
+    let r = c .before .before .before .before .before .row-of .ensures in
+    let z = c .before .before .before .before .if1 .left in
+    let i = row-inside k (b .number) _ r z in
+    let e = row-there k (b .number) _ r z in
+    let a = c .before .before .before .before .before .before .before .before .args in
+    let f = unpack (c .before .before .before .before .before .row-of .result) in
+    let q = c .last-of .ensures in
+    let o = onward k (b .number) (b .column) f i e (b .inv .3) in
+    let w = walks-on k (b .number) (b .column) f i e (b .inv .3) (a .form) (now (a .card)) (c .before .before .before .judge-next .result) (c .before .before .before .judge-next .ensures) (c .before .enum-told .given .1) in
+    (omega (arith, i), omega arith, omega (arith, q, stands k (b .number) (b .column) f i e (b .inv .3) .on-card), rw q o, b .inv .4 ∙ rw q w)
 
 pub judge-columns-spec : {M : Type 1} → statement M
 judge-columns-spec =
@@ -96,22 +115,17 @@ judge-columns-spec =
     (tie.spec
     Inv-loop
     μ-loop
-    fields-in-requires
     loop-holds
-    add-number
-    field-of-requires
-    enum-known-found
-    enum-told
+    add-row-of
+    row-of-requires
+    judge-rest-requires
     returns
     judge-next-requires
+    enum-told
     enum-told-2
-    enum-told-3
     returns-2
+    last-of-requires
     add-column
+    add-number
     loop-less
-    loop-again
-    is-blank-requires
-    returns-3
-    add-first-filled
-    first-filled-requires
-    returns-4)
+    loop-again)

@@ -15,7 +15,6 @@ use Rattle.entry.proofs.other_second.Tie as tie
 use Rattle.entry.proofs.other_second.Reads as reads
 use Rattle.entry.proofs.other_second.Lts as lts
 use Rattle.judging.proofs.second_by.Reads as second-by-reads
-use Rattle.layout.proofs.fields_in.Reads as fields-in-reads
 
 abbrev Inv-loop : tie.InvT-loop
 Inv-loop card layout number count n₀ n = (n ≤ length (fieldsOf layout)) × (otherSecond card number 1 (fieldsOf layout) ≡ otherSecond card number (n + 1) (drop n (fieldsOf layout)))

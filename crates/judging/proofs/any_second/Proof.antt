@@ -12,7 +12,6 @@ use Rattle.judging.proofs.any_second.Tie as tie
 use Rattle.judging.proofs.any_second.Reads as reads
 use Rattle.judging.proofs.any_second.Lts as lts
 use Rattle.judging.proofs.second_by.Reads as second-by-reads
-use Rattle.layout.proofs.fields_in.Reads as fields-in-reads
 
 abbrev Inv-loop : tie.InvT-loop
 Inv-loop card layout count n₀ n = (n ≤ length (fieldsOf layout)) × (anySecond card (fieldsOf layout) ≡ anySecond card (drop n (fieldsOf layout)))

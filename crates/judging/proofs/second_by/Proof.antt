@@ -9,7 +9,6 @@ use Rattle.judging.proofs.second_by.Tie as tie
 use Rattle.judging.proofs.second_by.Reads as reads
 use Rattle.judging.proofs.second_by.Lts as lts
 use Rattle.judging.proofs.second_at.Reads as second-at-reads
-use Rattle.layout.proofs.field_of.Reads as field-of-reads
 
 -- src/lib.rt:170:9
 field-of-requires : tie.Need-field-of-requires

@@ -1,4 +1,4 @@
--- `layout::in_range` meets its contract: below zero only an open range holds, from zero up the range's own test.
+-- `ranges::in_range` meets its contract: below zero only an open range holds, from zero up the range's own test.
 use mathlib.Core.Path.{_∙_}
 use Rattle.ranges.proofs.Signs.{below-zero, from-zero, size-fits}
 use borrow.Author.Needs.{needs}

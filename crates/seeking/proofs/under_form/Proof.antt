@@ -8,7 +8,6 @@ use Rattle.seeking.proofs.under_form.Tie as tie
 use Rattle.seeking.proofs.under_form.Reads as reads
 use Rattle.seeking.proofs.under_form.Lts as lts
 use Rattle.seeking.proofs.refused.Reads as refused-reads
-use Rattle.layout.proofs.field_of.Reads as field-of-reads
 
 -- src/lib.rt:77:9
 field-of-requires : tie.Need-field-of-requires

@@ -1,0 +1,121 @@
+// The fields of a layout, found by their numbers, and the parts of a field's row.
+use layout::Field;
+use layout::Found;
+use layout::Kind;
+use layout::Range;
+ghost use mathlib.Core.Path.{_≡_};
+ghost use lib.ListN.{length};
+ghost use Rattle.layout.specs.Layouts.{fieldsOf, fieldOf};
+ghost use Rattle.layout.specs.Packed.{tens, hundreds, kindOf, rangeOf, unpack};
+
+// The number whose two decimal digits are hexadecimal ones.
+fn tens(digits: u64) -> u64
+    ensures { λ r. ⌜ r ≡ tens digits ⌝ }
+{
+    digits / 16 * 10 + digits % 16
+}
+
+// The same of three digits.
+fn hundreds(digits: u64) -> u64
+    ensures { λ r. ⌜ r ≡ hundreds digits ⌝ }
+{
+    digits / 256 * 100 + tens(digits % 256)
+}
+
+// The first column of the field that a row holds.
+pub fn first_of(row: u64) -> usize
+    ensures { λ r. ⌜ r ≡ unpack row .first ⌝ }
+{
+    tens(row / 0x1_00 % 256) as usize
+}
+
+// Its last column.
+pub fn last_of(row: u64) -> usize
+    ensures { λ r. ⌜ r ≡ unpack row .last ⌝ }
+{
+    tens(row % 256) as usize
+}
+
+fn kind_by(number: u64) -> Kind
+    ensures { λ r. ⌜ r ≡ kindOf number ⌝ }
+{
+    match number {
+        0xa => Kind::Text,
+        0xc => Kind::Comment,
+        1 => Kind::Whole,
+        2 => Kind::Decimal,
+        0xd => Kind::Date,
+        0xe => Kind::Latitude,
+        _ => Kind::Longitude,
+    }
+}
+
+// How it is spelled.
+pub fn kind_of(row: u64) -> Kind
+    ensures { λ r. ⌜ r ≡ unpack row .kind ⌝ }
+{
+    kind_by(row / 0x1_0_00_00 % 16)
+}
+
+fn range_by(number: u64) -> Range
+    ensures { λ r. ⌜ r ≡ rangeOf number ⌝ }
+{
+    if number == 0 {
+        return Range::Any;
+    }
+    let low = hundreds(number / 0x1_000_000 % 0x1_000);
+    let high = hundreds(number / 0x1_000 % 0x1_000);
+    let other = hundreds(number % 0x1_000);
+    match number / 0x1_000_000_000 {
+        0 => Range::Any,
+        1 => Range::AtLeast(low),
+        2 => Range::Between(low, high),
+        _ => Range::OneOf(low, high, other),
+    }
+}
+
+// The values that it may have.
+pub fn range_of(row: u64) -> Range
+    ensures { λ r. ⌜ r ≡ unpack row .range ⌝ }
+{
+    range_by(row / 0x1_0_0_00_00)
+}
+
+// The field itself.
+pub fn field_in(row: u64) -> Field
+    ensures { λ r. ⌜ r ≡ unpack row ⌝ }
+{
+    Field {
+        kind: kind_of(row),
+        first: first_of(row),
+        last: last_of(row),
+        needed: row / 0x1_00_00 % 2 == 1,
+        second: row / 0x2_00_00 % 2 == 1,
+        range: range_of(row),
+    }
+}
+
+// The field with a number, counted from 1, of a layout.
+pub fn field_of(layout: usize, number: usize) -> Found
+    ensures { λ r. ⌜ r ≡ fieldOf layout number ⌝ }
+{
+    let row = layout::row_of(layout, number);
+    if row == 0 {
+        return Found::Nothing;
+    }
+    Found::Is(field_in(row))
+}
+
+// The number of fields of a layout, 0 past the last layout.
+pub fn fields_in(layout: usize) -> usize
+    ensures { λ r. ⌜ r ≡ length (fieldsOf layout) ⌝ }
+{
+    let mut count = 0;
+    loop {
+        let row = layout::row_of(layout, count + 1);
+        if row == 0 {
+            return count;
+        }
+        count += 1;
+    }
+}

@@ -1,0 +1,20 @@
+-- `labels::label_byte` meets its contract: past the longest label stands a blank.
+use Rattle.labels.proofs.Lines.{label-byte-is, label-past}
+use borrow.Author.Needs.{needs}
+use Rattle.labels.proofs.label_byte.Statement.{statement}
+use Rattle.labels.proofs.label_byte.Tie as tie
+
+returns : tie.Need-returns
+returns c = label-past _ _ (c .if1 .taken)
+
+label-row-requires : tie.Need-label-row-requires
+label-row-requires c κs = search needs
+
+array-read-result : tie.Need-array-read-result
+array-read-result c = search needs
+
+returns-2 : tie.Need-returns-2
+returns-2 c = label-byte-is _ _ (search needs) _ (c .label-row .ensures)
+
+pub label-byte-spec : {M : Type 1} → statement M
+label-byte-spec = tie.close (tie.spec returns label-row-requires array-read-result returns-2)

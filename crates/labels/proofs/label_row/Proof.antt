@@ -1,0 +1,23 @@
+-- `labels::label_row` meets its contract: each line is the label of the table, by a computation.
+use Rattle.layout.specs.Table.{layouts}
+use Rattle.layout.specs.Layouts.{layoutAt, labelOf}
+use Rattle.layout.specs.Packed.{labelRow}
+use Rattle.labels.proofs.Lines.{same-label, no-label-row}
+use Rattle.labels.proofs.label_row.Statement.{statement}
+use Rattle.labels.proofs.label_row.Tie as tie
+
+pub label-row-spec : {M : Type 1} → statement M
+unfolding labelRow labelOf layoutAt layouts
+label-row-spec =
+    tie.close
+    (tie.spec
+    (λ c. same-label 0 _ (c .before .before .match .keys1))
+    (λ c. same-label 1 _ (c .before .before .match .keys2))
+    (λ c. same-label 2 _ (c .before .before .match .keys3))
+    (λ c. same-label 3 _ (c .before .before .match .keys4))
+    (λ c. same-label 4 _ (c .before .before .match .keys5))
+    (λ c. same-label 5 _ (c .before .before .match .keys6))
+    (λ c. same-label 6 _ (c .before .before .match .keys7))
+    (λ c. same-label 7 _ (c .before .before .match .keys8))
+    (λ c. same-label 8 _ (c .before .before .match .keys9))
+    (λ c. no-label-row _ (c .match .rest)))

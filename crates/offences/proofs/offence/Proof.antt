@@ -1,0 +1,72 @@
+-- `offences::offence` meets its contract.
+use denote.Ref.{now}
+use mathlib.Core.Path.{refl, sym, ap, _∙_}
+use native.Mathlib.Omega.{arith}
+use Rattle.layout.specs.Packed.{unpack}
+use Rattle.judging.specs.Fields.{neededOn}
+use Rattle.offences.proofs.Offences.{offence-other, offence-missing, offence-none, columns-some}
+use borrow.Author.Needs.{needs}
+use Rattle.offences.proofs.offence.Statement.{statement}
+use Rattle.offences.proofs.offence.Tie as tie
+
+first-of-requires : tie.Need-first-of-requires
+first-of-requires c κs = search needs
+
+last-of-requires : tie.Need-last-of-requires
+last-of-requires c κs = search needs
+
+sub-offence-in : tie.Need-sub-offence-in
+sub-offence-in c = omega (arith, c .before .first-of .ensures, c .before .before .before .pre .1)
+
+sub-offence-in-2 : tie.Need-sub-offence-in-2
+sub-offence-in-2 c = omega (arith, c .before .first-of .ensures, c .last-of .ensures, c .before .before .before .pre .1, c .before .before .before .pre .2)
+
+part-offence-in-start : tie.Need-part-offence-in-start
+part-offence-in-start c = omega (arith, c .before .first-of .ensures, c .last-of .ensures, c .before .before .before .pre)
+
+part-offence-in-end : tie.Need-part-offence-in-end
+part-offence-in-end c = omega (arith, c .before .first-of .ensures, c .last-of .ensures, c .before .before .before .pre)
+
+offence-in-requires : tie.Need-offence-in-requires
+offence-in-requires c κs =
+    let a = c .before .before .before .before .args in
+    let p = c .before .before .before .before .pre in
+    columns-some (now (a .card)) (c .before .before .first-of .result) (c .before .last-of .result) (p .0) (omega (arith, p .1, c .before .before .first-of .ensures)) (omega (arith, p .2, c .before .before .first-of .ensures, c .before .last-of .ensures)) (omega (arith, p .3, c .before .last-of .ensures))
+
+returns : tie.Need-returns
+returns c =
+    let a = c .before .before .before .before .before .before .args in
+    sym (offence-other _ (now (a .card)) (unpack (a .row)) _ _ _ _ (c .before .before .before .before .first-of .ensures) (c .before .before .before .last-of .ensures) (c .before .offence-in .ensures) (c .if1 .taken))
+
+field-in-requires : tie.Need-field-in-requires
+field-in-requires c κs = search needs
+
+needed-on-requires : tie.Need-needed-on-requires
+needed-on-requires c κs = search needs
+
+returns-2 : tie.Need-returns-2
+returns-2 c =
+    let a = c .before .before .before .before .before .before .before .before .before .args in
+    sym (offence-missing _ (now (a .card)) (unpack (a .row)) _ _ _ _ (c .before .before .before .before .before .before .before .first-of .ensures) (c .before .before .before .before .before .before .last-of .ensures) (c .before .before .before .before .offence-in .ensures) (c .before .before .before .if1 .left) _ (c .before .before .field-in .ensures) _ (c .before .needed-on .ensures) (c .if2 .taken))
+
+returns-3 : tie.Need-returns-3
+returns-3 c =
+    let a = c .before .before .before .before .before .before .before .before .before .args in
+    sym (offence-none _ (now (a .card)) (unpack (a .row)) _ _ _ _ (c .before .before .before .before .before .before .before .first-of .ensures) (c .before .before .before .before .before .before .last-of .ensures) (c .before .before .before .before .offence-in .ensures) (c .before .before .before .if1 .left) _ (c .before .before .field-in .ensures) _ (c .before .needed-on .ensures) (c .if2 .left))
+
+pub offence-spec : {M : Type 1} → statement M
+offence-spec =
+    tie.close
+    (tie.spec
+    first-of-requires
+    last-of-requires
+    sub-offence-in
+    sub-offence-in-2
+    part-offence-in-start
+    part-offence-in-end
+    offence-in-requires
+    returns
+    field-in-requires
+    needed-on-requires
+    returns-2
+    returns-3)
