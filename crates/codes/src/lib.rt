@@ -1,15 +1,31 @@
 // What the code of a card is: read by a layout, passed, or unknown.
 use layout::LAYOUTS;
 ghost use mathlib.Core.Path.{_≡_};
-ghost use Prim.Native.Nat.{_<_, _≤_, _+_, _*_};
+ghost use Prim.Native.Nat.{ℕ, _<_, _≤_, _+_, _*_};
+ghost use mathlib.Core.List.{List};
 ghost use lib.ListN.{length, drop};
 ghost use Rattle.codes.specs.Codes.{byteFits, codes, placeIn, codeOf, patternCount};
-ghost use Rattle.codes.specs.Words.{fitsWord};
+ghost use Rattle.codes.specs.Words.{headOf, fitsWord};
 
 mod rows;
 
 use rows::CODES;
 use rows::pattern;
+
+// Heads, the first three bytes of a code as one number: the least with an H, and those at which patterns begin.
+const H: u64 = 0x48_00_00;
+
+const H01: u64 = 0x48_30_31;
+
+const H17: u64 = 0x48_31_37;
+
+const H21: u64 = 0x48_32_31;
+
+const H22: u64 = 0x48_32_32;
+
+const H23: u64 = 0x48_32_33;
+
+const H24: u64 = 0x48_32_34;
 
 // A card's code: read by the layout with a number, passed, or unknown.
 pub enum Code {
@@ -50,22 +66,30 @@ fn fits_word(word: u64, head: u64, fourth: u8, fifth: u8) -> bool
     byte_fits((word / 256 % 256) as u8, fourth)
 }
 
-// A pattern before which none fits a code: the comments, or the first with as high a second byte.
-fn start_of(code: &[u8]) -> usize
-    requires { ⌜ length (now code) ≡ 5 ⌝ }
-    ensures { λ r. ⌜ (r ≤ patternCount) × (placeIn codes (now (code .entry)) ≡ r + placeIn (drop r codes) (now (code .entry))) ⌝ }
+// A pattern before which none fits a code with a head: the comments, or the first that begins with no lower head.
+fn start_of(head: u64) -> usize
+    ensures { λ r. ⌜ (r ≤ patternCount) × ((s : List ℕ) → headOf s ≡ head → placeIn codes s ≡ r + placeIn (drop r codes) s) ⌝ }
 {
-    if code[0] < b'H' {
+    if head < H {
         return 10;
     }
-    if b'2' < code[1] {
+    if H24 <= head {
         return LAYOUTS;
     }
-    if b'1' < code[1] {
+    if H23 <= head {
+        return 23;
+    }
+    if H22 <= head {
+        return 22;
+    }
+    if H21 <= head {
         return 18;
     }
-    if b'0' < code[1] {
+    if H17 <= head {
         return 16;
+    }
+    if H01 <= head {
+        return 12;
     }
     0
 }
@@ -78,7 +102,7 @@ fn place_in(code: &[u8]) -> usize
     let head = head_of(code[0], code[1], code[2]);
     let fourth = code[3];
     let fifth = code[4];
-    let mut number = start_of(code);
+    let mut number = start_of(head);
     while number < CODES {
         if fits_word(pattern(number), head, fourth, fifth) {
             return number;

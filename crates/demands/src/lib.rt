@@ -7,12 +7,6 @@ use layout::Range;
 
 const H00X9: usize = 9;
 
-// Puts words and a number.
-fn push_with(out: &mut [u8], n: usize, words: &[u8], number: u64) -> usize {
-    let end = sheet::push_all(out, n, words);
-    sheet::push_number(out, end, number)
-}
-
 // Whether the field with a number begins in a column.
 fn begins_at(layout: usize, number: usize, column: usize) -> bool {
     let found = fields::field_of(layout, number);
@@ -50,10 +44,9 @@ fn is_grid(header: &[u8], card: &[u8], layout: usize) -> bool {
 fn push_span(out: &mut [u8], n: usize, letter: u8, first: usize, last: usize) -> usize {
     let begun = sheet::push(out, n, letter);
     if first == last {
-        return push_with(out, begun, b"olumn ", first as u64);
+        return sheet::push_form(out, begun, b"olumn #", first as u64, 0, 0);
     }
-    let from = push_with(out, begun, b"olumns ", first as u64);
-    push_with(out, from, b" to ", last as u64)
+    sheet::push_form(out, begun, b"olumns # to #", first as u64, last as u64, 0)
 }
 
 // Puts that a field's columns do not hold what follows.
@@ -65,22 +58,22 @@ fn push_lacks(out: &mut [u8], n: usize, first: usize, last: usize) -> usize {
     sheet::push_all(out, span, b" do not hold ")
 }
 
-// Puts a number that ends in a field's last column.
-fn push_ending(out: &mut [u8], n: usize, words: &[u8], column: usize, end: &[u8]) -> usize {
-    let named = sheet::push_all(out, n, words);
-    let place = push_with(out, named, b" that ends in column ", column as u64);
-    sheet::push_all(out, place, end)
-}
-
 // Puts a whole number, which is a digit where there is one column only.
 fn push_whole(out: &mut [u8], n: usize, first: usize, last: usize) -> usize {
     if first == last {
         return sheet::push_all(out, n, b"a digit.");
     }
-    push_ending(out, n, b"a whole number", last, b".")
+    sheet::push_form(
+        out,
+        n,
+        b"a whole number that ends in column #.",
+        last as u64,
+        0,
+        0,
+    )
 }
 
-// Puts a coordinate: words for an angle, or for a number with its letter in the last column.
+// Puts a coordinate: words for an angle, or for a number that ends before the last column.
 fn push_coordinate(
     out: &mut [u8],
     n: usize,
@@ -88,7 +81,6 @@ fn push_coordinate(
     last: usize,
     angle: &[u8],
     metres: &[u8],
-    letter: &[u8],
 ) -> usize {
     if !grid {
         return sheet::push_all(out, n, angle);
@@ -96,7 +88,7 @@ fn push_coordinate(
     if last == 0 {
         return n;
     }
-    push_ending(out, n, metres, last - 1, letter)
+    sheet::push_form(out, n, metres, (last - 1) as u64, 0, 0)
 }
 
 // Puts what a field has to hold.
@@ -112,7 +104,16 @@ fn push_wanted(
         Kind::Text => n,
         Kind::Comment => n,
         Kind::Whole => push_whole(out, n, first, last),
-        Kind::Decimal => push_ending(out, n, b"a number", last, b"."),
+        Kind::Decimal => {
+            sheet::push_form(
+                out,
+                n,
+                b"a number that ends in column #.",
+                last as u64,
+                0,
+                0,
+            )
+        }
         Kind::Date => sheet::push_all(out, n, b"a date of eight digits, YYYYMMDD."),
         Kind::Latitude => push_coordinate(
             out,
@@ -120,8 +121,7 @@ fn push_wanted(
             grid,
             last,
             b"a latitude dddmmss.sss with N or S.",
-            b"a northing: a number",
-            b", and the letter N behind it.",
+            b"a northing: a number that ends in column #, and the letter N behind it.",
         ),
         Kind::Longitude => push_coordinate(
             out,
@@ -129,8 +129,7 @@ fn push_wanted(
             grid,
             last,
             b"a longitude dddmmss.sss with E or W.",
-            b"an easting: a number",
-            b", and the letter E behind it.",
+            b"an easting: a number that ends in column #, and the letter E behind it.",
         ),
     }
 }
@@ -139,8 +138,14 @@ fn push_wanted(
 fn push_late(out: &mut [u8], n: usize, first: usize, last: usize) -> usize {
     let words = sheet::push_all(out, n, b"The text in ");
     let span = push_span(out, words, b'c', first, last);
-    let place = push_with(out, span, b" does not begin in column ", first as u64);
-    sheet::push(out, place, b'.')
+    sheet::push_form(
+        out,
+        span,
+        b" does not begin in column #.",
+        first as u64,
+        0,
+        0,
+    )
 }
 
 fn is_text(kind: Kind) -> bool {
@@ -168,26 +173,16 @@ fn push_between(out: &mut [u8], n: usize, low: u64, high: u64) -> usize {
     if (low == 0) & (high == 1) {
         return sheet::push_all(out, n, b" has to be 0 or 1.");
     }
-    let from = push_with(out, n, b" has to be from ", low);
-    let to = push_with(out, from, b" to ", high);
-    sheet::push(out, to, b'.')
+    sheet::push_form(out, n, b" has to be from # to #.", low, high, 0)
 }
 
 // Puts the numbers that a range has.
 fn push_range(out: &mut [u8], n: usize, range: Range) -> usize {
     match range {
         Range::Any => sheet::push_all(out, n, b" is too large."),
-        Range::AtLeast(low) => {
-            let number = push_with(out, n, b" has to be ", low);
-            sheet::push_all(out, number, b" or more.")
-        }
+        Range::AtLeast(low) => sheet::push_form(out, n, b" has to be # or more.", low, 0, 0),
         Range::Between(low, high) => push_between(out, n, low, high),
-        Range::OneOf(a, b, c) => {
-            let one = push_with(out, n, b" has to be ", a);
-            let two = push_with(out, one, b", ", b);
-            let three = push_with(out, two, b" or ", c);
-            sheet::push(out, three, b'.')
-        }
+        Range::OneOf(a, b, c) => sheet::push_form(out, n, b" has to be #, # or #.", a, b, c),
     }
 }
 

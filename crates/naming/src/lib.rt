@@ -22,16 +22,9 @@ const POINTS: u64 = 8;
 
 const GRID: u64 = 9;
 
-// Puts words and a number.
-pub fn push_with(out: &mut [u8], n: usize, words: &[u8], number: u64) -> usize {
-    let end = sheet::push_all(out, n, words);
-    sheet::push_number(out, end, number)
-}
-
-// Puts a number of things, with their word in the plural for any number but 1.
+// Puts a number of things, given as # and their word, in the plural for any number but 1.
 pub fn push_count(out: &mut [u8], n: usize, number: u64, word: &[u8]) -> usize {
-    let counted = sheet::push_number(out, n, number);
-    let named = sheet::push_all(out, counted, word);
+    let named = sheet::push_form(out, n, word, number, 0, 0);
     if number == 1 {
         return named;
     }
@@ -53,20 +46,20 @@ fn push_serial(out: &mut [u8], n: usize, bits: u64) -> usize {
 pub fn push_thing(out: &mut [u8], n: usize, key: u64) -> usize {
     let value = key % ROOM;
     match key / ROOM {
-        DATUMS => push_with(out, n, b"Datum ", value),
-        STREAMERS => push_with(out, n, b"Streamer ", value),
-        NODES => push_with(out, n, b"Node ", value),
+        DATUMS => sheet::push_form(out, n, b"Datum #", value, 0, 0),
+        STREAMERS => sheet::push_form(out, n, b"Streamer #", value, 0, 0),
+        NODES => sheet::push_form(out, n, b"Node #", value, 0, 0),
         SERIALS => {
             let end = sheet::push_all(out, n, b"Compass serial ");
             push_serial(out, end, value)
         }
-        SENSORS => push_with(out, n, b"Motion sensor ", value),
-        VESSELS => push_with(out, n, b"Vessel ", value),
+        SENSORS => sheet::push_form(out, n, b"Motion sensor #", value, 0, 0),
+        VESSELS => sheet::push_form(out, n, b"Vessel #", value, 0, 0),
         WAYPOINTS => {
-            let end = push_with(out, n, b"Waypoint ", value % EACH);
-            push_with(out, end, b" of vessel ", value / EACH)
+            let vessel = value / EACH;
+            sheet::push_form(out, n, b"Waypoint # of vessel #", value % EACH, vessel, 0)
         }
-        POINTS => push_with(out, n, b"Variation point ", value),
+        POINTS => sheet::push_form(out, n, b"Variation point #", value, 0, 0),
         GRID => sheet::push_all(out, n, b"The variation grid"),
         _ => n,
     }
@@ -75,7 +68,7 @@ pub fn push_thing(out: &mut [u8], n: usize, key: u64) -> usize {
 // Puts the code of the cards that define a key.
 pub fn push_definer(out: &mut [u8], n: usize, key: u64) -> usize {
     match key / ROOM {
-        DATUMS => push_with(out, n, b"H011", key % ROOM),
+        DATUMS => sheet::push_form(out, n, b"H011#", key % ROOM, 0, 0),
         STREAMERS => sheet::push_all(out, n, b"H21@0"),
         NODES => sheet::push_all(out, n, b"H22@0"),
         SERIALS => sheet::push_all(out, n, b"H22@0"),

@@ -8,29 +8,14 @@ const H00X8: usize = 8;
 
 const H00X9: usize = 9;
 
-// Puts words and a number.
-fn push_with(out: &mut [u8], n: usize, words: &[u8], number: usize) -> usize {
-    let end = sheet::push_all(out, n, words);
-    sheet::push_number(out, end, number as u64)
-}
-
 // 2: how long the header is.
 fn push_length(out: &mut [u8], n: usize, header: &[u8]) -> usize {
-    let number = push_with(out, n, b"The length, ", header.len());
-    let unit = push_bytes(out, number, header.len());
-    sheet::push_all(
-        out,
-        unit,
-        b", is not a whole number of cards of 80 columns.",
-    )
-}
-
-// Puts the word behind a number of bytes.
-fn push_bytes(out: &mut [u8], n: usize, number: usize) -> usize {
-    if number == 1 {
-        return sheet::push_all(out, n, b" byte");
+    if header.len() == 1 {
+        let words = b"The length, 1 byte, is not a whole number of cards of 80 columns.";
+        return sheet::push_all(out, n, words);
     }
-    sheet::push_all(out, n, b" bytes")
+    let words = b"The length, # bytes, is not a whole number of cards of 80 columns.";
+    sheet::push_form(out, n, words, header.len() as u64, 0, 0)
 }
 
 // Puts what the usual bytes are that are not printable.
@@ -46,13 +31,8 @@ fn push_byte_name(out: &mut [u8], n: usize, b: u8) -> usize {
 // 4: which byte it is.
 fn push_unprintable(out: &mut [u8], n: usize, card: &[u8], column: usize) -> usize {
     let byte = byte_in(card, column);
-    let place = push_with(out, n, b"The byte in column ", column);
-    let words = sheet::push_all(
-        out,
-        place,
-        b" is no printable ASCII character: its value is ",
-    );
-    let value = sheet::push_number(out, words, byte as u64);
+    let words = b"The byte in column # is no printable ASCII character: its value is #";
+    let value = sheet::push_form(out, n, words, column as u64, byte as u64, 0);
     let name = push_byte_name(out, value, byte);
     sheet::push(out, name, b'.')
 }
@@ -74,15 +54,14 @@ fn push_unknown(out: &mut [u8], n: usize, card: &[u8]) -> usize {
 
 // Puts which card has to stand at a place among the first nine.
 fn push_expected(out: &mut [u8], n: usize, place: usize) -> usize {
-    let card = push_with(out, n, b"card ", place);
     if place == 0 {
-        return card;
+        return n;
     }
     if OPENING < place {
-        return sheet::push_all(out, card, b" has to be H00@8.");
+        return sheet::push_form(out, n, b"card # has to be H00@8.", place as u64, 0, 0);
     }
-    let code = push_with(out, card, b" has to be H000", place - 1);
-    sheet::push(out, code, b'.')
+    let words = b"card # has to be H000#.";
+    sheet::push_form(out, n, words, place as u64, (place - 1) as u64, 0)
 }
 
 // Puts where the cards of a layout stand, of which one came too late.
@@ -100,8 +79,14 @@ fn push_home(out: &mut [u8], n: usize, layout: usize) -> usize {
     if OPENING <= layout {
         return n;
     }
-    let place = push_with(out, n, b"it stands once, as card ", layout + 1);
-    sheet::push(out, place, b'.')
+    sheet::push_form(
+        out,
+        n,
+        b"it stands once, as card #.",
+        (layout + 1) as u64,
+        0,
+        0,
+    )
 }
 
 // 6: which card has to stand here, or where this one has to stand.
@@ -120,9 +105,9 @@ fn push_misplaced(out: &mut [u8], n: usize, card: &[u8], place: usize) -> usize 
 
 // 7: which column it is, and of which card.
 fn push_gap(out: &mut [u8], n: usize, card: &[u8], column: usize) -> usize {
-    let place = push_with(out, n, b"Column ", column);
-    let words = sheet::push_all(out, place, b" belongs to no field of ");
-    let code = sheet::push_code(out, words, card);
+    let words = b"Column # belongs to no field of ";
+    let place = sheet::push_form(out, n, words, column as u64, 0, 0);
+    let code = sheet::push_code(out, place, card);
     sheet::push_all(out, code, b" and has to be blank.")
 }
 

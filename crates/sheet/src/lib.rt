@@ -64,6 +64,32 @@ pub fn push_number(out: &mut [u8], n: usize, value: u64) -> usize {
     push_all(out, n, &text[..k])
 }
 
+// Puts a byte of words, or a number in the place of a #.
+fn push_next(out: &mut [u8], n: usize, b: u8, number: u64) -> usize {
+    if b == b'#' {
+        return push_number(out, n, number);
+    }
+    push(out, n, b)
+}
+
+// Puts words, and the numbers in their order wherever a # stands.
+pub fn push_form(out: &mut [u8], n: usize, words: &[u8], a: u64, b: u64, c: u64) -> usize {
+    let mut end = n;
+    let mut first = a;
+    let mut second = b;
+    let mut i = 0;
+    while i < words.len() {
+        let byte = words[i];
+        end = push_next(out, end, byte, first);
+        if byte == b'#' {
+            first = second;
+            second = c;
+        }
+        i += 1;
+    }
+    end
+}
+
 // The character that is shown for a byte.
 fn shown(b: u8) -> u8 {
     if (b < BLANK) | (LAST < b) {

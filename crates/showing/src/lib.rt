@@ -39,9 +39,9 @@ fn push_place(
     times: usize,
 ) -> usize {
     let joined = push_join(out, n, told, times);
-    let card = naming::push_with(out, joined, b"on card ", places::card_of(place) as u64);
+    let card = places::card_of(place) as u64;
     let column = places::column_of(header, place) as u64;
-    naming::push_with(out, card, b" at column ", column)
+    sheet::push_form(out, joined, b"on card # at column #", card, column, 0)
 }
 
 // Puts a place where it is one to be told.
@@ -109,8 +109,14 @@ fn push_rest(out: &mut [u8], n: usize, times: usize) -> usize {
     if times <= limit {
         return n;
     }
-    let end = naming::push_with(out, n, b" and in ", (times - limit) as u64);
-    sheet::push_all(out, end, b" more places")
+    sheet::push_form(
+        out,
+        n,
+        b" and in # more places",
+        (times - limit) as u64,
+        0,
+        0,
+    )
 }
 
 // Kind 1: what is named, and which card there is none of.
@@ -133,8 +139,8 @@ fn push_redefined(
 ) -> usize {
     let times = places::times(keys, key);
     let thing = naming::push_thing(out, n, key);
-    let number = naming::push_with(out, thing, b" is defined in ", times as u64);
-    let first = sheet::push_all(out, number, b" places: here");
+    let words = b" is defined in # places: here";
+    let first = sheet::push_form(out, thing, words, times as u64, 0, 0);
     let others = push_places(out, first, header, keys, key, here, 1, times);
     let rest = push_rest(out, others, times);
     sheet::push(out, rest, b'.')
@@ -145,8 +151,8 @@ fn push_ambiguous(out: &mut [u8], n: usize, header: &[u8], keys: &[u64], key: u6
     let times = places::times(keys, key);
     let thing = naming::push_thing(out, n, key);
     let used = naming::push_use(out, thing, key);
-    let number = naming::push_with(out, used, b" and defined in ", times as u64);
-    let first = sheet::push_all(out, number, b" places: ");
+    let words = b" and defined in # places: ";
+    let first = sheet::push_form(out, used, words, times as u64, 0, 0);
     let all = push_places(out, first, header, keys, key, keys.len(), 0, times);
     let rest = push_rest(out, all, times);
     sheet::push(out, rest, b'.')
@@ -157,18 +163,15 @@ fn push_own(out: &mut [u8], n: usize, card: &[u8], layout: usize, column: usize)
     let begun = sheet::push_all(out, n, b"The code ");
     let code = sheet::push_code(out, begun, card);
     let own = keys::vessel_of(card, layout) as u64;
-    let digit = naming::push_with(out, code, b" says vessel ", own);
-    let place = naming::push_with(out, digit, b", and column ", column as u64);
     let stated = unmarked(keys::whole_in(card, column, column));
-    let vessel = naming::push_with(out, place, b" says vessel ", stated);
-    sheet::push(out, vessel, b'.')
+    let words = b" says vessel #, and column # says vessel #.";
+    sheet::push_form(out, code, words, own, column as u64, stated)
 }
 
-// Puts a card's vessel digit, and words behind it.
-fn push_vessel(out: &mut [u8], n: usize, card: &[u8], words: &[u8]) -> usize {
+// Puts words with a card's vessel digit in them.
+fn push_vessel(out: &mut [u8], n: usize, card: &[u8], words: &[u8], number: u64) -> usize {
     let vessel = keys::vessel_of(card, forms::layout_of(card)) as u64;
-    let digit = naming::push_with(out, n, b" to vessel ", vessel);
-    sheet::push_all(out, digit, words)
+    sheet::push_form(out, n, words, vessel, number, 0)
 }
 
 // Puts a card's code in brackets, and words behind it.
@@ -181,8 +184,8 @@ fn push_in_brackets(out: &mut [u8], n: usize, card: &[u8], words: &[u8]) -> usiz
 // Puts the vessel digit of the card with a number, which defines what is named.
 fn push_definition(out: &mut [u8], n: usize, header: &[u8], number: usize) -> usize {
     let card = sheet::card_in(header, number);
-    let end = push_vessel(out, n, card, b" where it is defined, on card ");
-    let place = sheet::push_number(out, end, number as u64);
+    let words = b" to vessel # where it is defined, on card #";
+    let place = push_vessel(out, n, card, words, number as u64);
     push_in_brackets(out, place, card, b").")
 }
 
@@ -197,8 +200,7 @@ fn push_apart(
 ) -> usize {
     let number = places::card_of(places::first_of(keys, key));
     let thing = naming::push_thing(out, n, key);
-    let belongs = sheet::push_all(out, thing, b" belongs");
-    let here = push_vessel(out, belongs, card, b" here");
+    let here = push_vessel(out, thing, card, b" belongs to vessel # here", 0);
     let code = push_in_brackets(out, here, card, b"), and");
     push_definition(out, code, header, number)
 }
@@ -208,25 +210,23 @@ fn push_found(out: &mut [u8], n: usize, found: usize) -> usize {
     if found == 0 {
         return sheet::push_all(out, n, b"none.");
     }
-    let end = sheet::push_number(out, n, found as u64);
-    sheet::push(out, end, b'.')
+    sheet::push_form(out, n, b"#.", found as u64, 0, 0)
 }
 
 // Kind 5 on H00@8: how many waypoints are stated, and how many are found.
 fn push_waypoints(out: &mut [u8], n: usize, keys: &[u64], card: &[u8]) -> usize {
     let stated = unmarked(keys::whole_in(card, 79, 80));
     let vessel = unmarked(keys::whole_in(card, 30, 30));
-    let count = naming::push_count(out, n, stated, b" waypoint");
-    let whose = naming::push_with(out, count, b" for vessel ", vessel);
-    let cards = naming::push_with(out, whose, b", and the H00@9 cards of vessel ", vessel);
-    let found = sheet::push_all(out, cards, b" define ");
+    let count = naming::push_count(out, n, stated, b"# waypoint");
+    let words = b" for vessel #, and the H00@9 cards of vessel # define ";
+    let found = sheet::push_form(out, count, words, vessel, vessel, 0);
     push_found(out, found, places::waypoints_of(keys, vessel))
 }
 
 // Kind 5 on H0100: how many variation points are stated, and how many are found.
 fn push_points(out: &mut [u8], n: usize, keys: &[u64], card: &[u8]) -> usize {
     let stated = unmarked(keys::whole_in(card, 16, 19));
-    let count = naming::push_count(out, n, stated, b" variation point");
+    let count = naming::push_count(out, n, stated, b"# variation point");
     let found = sheet::push_all(out, count, b", and the H0101 cards define ");
     push_found(out, found, places::points_in(keys))
 }

@@ -53,7 +53,7 @@ loop-holds c =
         second-byte = h .2;
         third-byte = h .3;
       },
-      c .start-of .ensures .1,
+      c .start-of .ensures .1 _ (sym (h .0)),
     )
 
 pattern-requires : tie.Need-pattern-requires Inv-loop μ-loop

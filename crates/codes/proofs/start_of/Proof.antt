@@ -1,47 +1,21 @@
--- `codes::start_of` meets its contract: the patterns before each start take other bytes, by computed tests.
+-- `codes::start_of` meets its contract: the patterns before each start have lower heads, by computed tests.
 use native.Mathlib.Omega.{arith}
-use Rattle.codes.proofs.Skip.{from-comments, from-passed, from-twos, from-ones}
-use borrow.Author.Needs.{needs}
+use Rattle.layout.specs.Table.{layouts, passedCodes}
+use Rattle.codes.specs.Codes.{codes}
+use Rattle.codes.proofs.Skip.{from-comments, from-head}
 use Rattle.codes.proofs.start_of.Statement.{statement}
 use Rattle.codes.proofs.start_of.Tie as tie
 
-shared-slice-read-if1 : tie.Need-shared-slice-read-if1
-shared-slice-read-if1 c = search needs
-
-returns : tie.Need-returns
-returns c = (omega arith, from-comments _ (search needs))
-
-shared-slice-read-if2 : tie.Need-shared-slice-read-if2
-shared-slice-read-if2 c = search needs
-
-returns-2 : tie.Need-returns-2
-returns-2 c = (omega arith, from-passed _ (search needs))
-
-shared-slice-read-if3 : tie.Need-shared-slice-read-if3
-shared-slice-read-if3 c = search needs
-
-returns-3 : tie.Need-returns-3
-returns-3 c = (omega arith, from-twos _ (search needs))
-
-shared-slice-read-if4 : tie.Need-shared-slice-read-if4
-shared-slice-read-if4 c = search needs
-
-returns-4 : tie.Need-returns-4
-returns-4 c = (omega arith, from-ones _ (search needs))
-
-returns-5 : tie.Need-returns-5
-returns-5 c = (omega arith, omega arith)
-
 pub start-of-spec : {M : Type 1} → statement M
+unfolding codes layouts passedCodes
 start-of-spec =
     tie.close
     (tie.spec
-    shared-slice-read-if1
-    returns
-    shared-slice-read-if2
-    returns-2
-    shared-slice-read-if3
-    returns-3
-    shared-slice-read-if4
-    returns-4
-    returns-5)
+    (λ c. (omega arith, from-comments _ (c .if1 .taken)))
+    (λ c. (omega arith, from-head 26 4731444 (omega arith) tt _ (c .if2 .taken)))
+    (λ c. (omega arith, from-head 23 4731443 (omega arith) tt _ (c .if3 .taken)))
+    (λ c. (omega arith, from-head 22 4731442 (omega arith) tt _ (c .if4 .taken)))
+    (λ c. (omega arith, from-head 18 4731441 (omega arith) tt _ (c .if5 .taken)))
+    (λ c. (omega arith, from-head 16 4731191 (omega arith) tt _ (c .if6 .taken)))
+    (λ c. (omega arith, from-head 12 4730929 (omega arith) tt _ (c .if7 .taken)))
+    (λ c. (omega arith, λ s e. omega arith)))
