@@ -1,24 +1,21 @@
 -- The patterns of the codes: five bytes each, and no code fits two of them.
 use mathlib.Core.Path.{_≡_, refl, sym, _∙_, ap}
 use mathlib.Core.Bool.{Bool, true, false, cond, not, _&&_, _||_, true≢false}
-use mathlib.Core.List.{List, [], _∷_, map}
+use mathlib.Core.List.{List, [], _∷_}
 use Prim.Native.Nat.{ℕ, zero, suc, _+_, _<_, _≤_, suc-le-suc}
 use native.Mathlib.Nat.{le-of-suc-le-suc, not-suc-le-zero}
 use native.Mathlib.Omega.{arith}
 use borrow.Author.Tests.{eqb-true, leb-true, ltb-true}
 use lib.Dec.{T, eqb, eqb→eq, leb, ltb, ltb→lt}
-use lib.ListN.{length, getD, length-map, List·getD-append, List·getD-map}
-use lib.Seq.{getD-append-add}
+use lib.ListN.{length, getD}
 use Rattle.codes.specs.declared.Code.the-variants.{Read, Passed, Unknown}
-use Rattle.layout.specs.Shape.{Layout}
 use Rattle.layout.specs.Table.{layouts, passedCodes}
 use Rattle.codes.specs.Codes.{byteFits, fitsAt, fits, codes, placeIn, codeOf}
 use Rattle.layout.specs.Layouts.{layoutAt}
 use Rattle.layout.specs.Packed.{layoutCount}
 use Rattle.codes.specs.Codes.{patternCount}
 use Rattle.layout.proofs.Every.{every, at, and-left, and-right}
-use Rattle.codes.proofs.Places.{codes-count}
-use Rattle.layout.proofs.Places.{layouts-count}
+use Rattle.codes.proofs.Places.{codes-count, passed-count, code-is, passed-is}
 use Rattle.codes.proofs.Walk.{is-read, is-passed, is-unknown}
 
 -- every pattern has five bytes
@@ -127,25 +124,6 @@ later (p ∷ ps) t s (suc i) (suc j) h hj f g =
 -- no code fits two patterns, read or passed
 pub one-pattern : (s : List ℕ) (i j : ℕ) → i < j → j < patternCount → fits (getD codes i []) s ≡ true → fits (getD codes j []) s ≡ true → ⊥
 one-pattern s i j h hj = later codes codes-apart s i j h (omega (arith, codes-count))
-
--- where a pattern stands among all
-
-abbrev codeIn : Layout → List ℕ
-codeIn l = l .code
-
-code-is : (k : ℕ) → k < layoutCount → getD codes k [] ≡ layoutAt k .code
-unfolding codes layoutAt
-code-is k h =
-    List·getD-append (map codeIn layouts) passedCodes [] k (omega (arith, length-map layouts codeIn, layouts-count))
-    ∙ List·getD-map codeIn layouts k (record { code = []; label = []; fields = [] })
-
-passed-is : (i : ℕ) → getD codes (layoutCount + i) [] ≡ getD passedCodes i []
-unfolding codes layouts
-passed-is i = getD-append-add (map codeIn layouts) passedCodes i []
-
-passed-count : layoutCount + length passedCodes ≡ patternCount
-unfolding passedCodes
-passed-count = refl
 
 -- so a pattern that fits is the one that the walk finds
 

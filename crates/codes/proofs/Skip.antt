@@ -10,7 +10,7 @@ use lib.ListN.{length, getD, drop}
 use Rattle.layout.proofs.Every.{every, at}
 use Rattle.layout.specs.Table.{layouts, passedCodes}
 use Rattle.codes.specs.Codes.{fitsAt, fits, codes, placeIn, patternCount}
-use Rattle.codes.specs.Words.{headOf}
+use Rattle.layout.specs.Packed.{headOf}
 use Rattle.codes.proofs.Places.{codes-count}
 use Rattle.codes.proofs.Apart.{least, most, between, Fits, in-each, decide, either}
 

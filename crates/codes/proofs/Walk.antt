@@ -1,5 +1,5 @@
 -- The walk over the patterns: the first that fits is the one that the spec names.
-use mathlib.Core.Path.{_≡_, refl, sym, _∙_, ap}
+use mathlib.Core.Path.{_≡_, refl, sym, _∙_, ap, subst}
 use mathlib.Core.Bool.{Bool, true, false, cond}
 use mathlib.Core.List.{List, [], _∷_}
 use Prim.Native.Nat.{ℕ, zero, suc, _+_, _<_, _≤_}
@@ -9,12 +9,13 @@ use borrow.Author.Tests.{eq-eqb, ne-eqb, lt-ltb, le-ltb}
 use lib.Dec.{eqb}
 use lib.ListN.{length, getD, drop, drop-of-length-le}
 use lib.Seq.{drop-cons}
+use Rattle.codes.specs.declared.Code.{Code}
 use Rattle.codes.specs.declared.Code.the-variants.{Read, Passed, Unknown}
 use Rattle.layout.specs.Table.{layouts, passedCodes}
 use Rattle.codes.specs.Codes.{byteFits, fitsAt, fits, codes, placeIn, codeAt, codeOf}
 use Rattle.layout.specs.Packed.{layoutCount}
-use Rattle.codes.specs.Codes.{patternCount}
-use Rattle.codes.proofs.Places.{codes-count}
+use Rattle.codes.specs.Codes.{passedCount, patternCount}
+use Rattle.codes.proofs.Places.{codes-count, behind}
 use Rattle.layout.proofs.Places.{layouts-count}
 
 -- the walk
@@ -57,6 +58,27 @@ pub is-unknown : (s : List ℕ) (n : ℕ) → n ≡ placeIn codes s → patternC
 unfolding codeOf codeAt
 is-unknown s n e h =
     rw (← e, le-ltb n (length layouts) (omega (arith, layouts-count)), le-ltb n (length codes) (omega (arith, codes-count)))
+
+-- a code that no layout reads, by the walk over the passed codes
+
+module _ (s : List ℕ) (n : ℕ) (e : placeIn passedCodes s ≡ n) where
+  pub end-passed : n < passedCount → Passed ≡ codeAt (layoutCount + placeIn passedCodes s)
+  unfolding codeAt
+  end-passed h =
+      rw (e, le-ltb (layoutCount + n) (length layouts) (omega (arith, layouts-count)), lt-ltb (layoutCount + n) (length codes) (omega (arith, codes-count)))
+
+  pub end-unknown : passedCount ≤ n → Unknown ≡ codeAt (layoutCount + placeIn passedCodes s)
+  unfolding codeAt
+  end-unknown h =
+      rw (e, le-ltb (layoutCount + n) (length layouts) (omega (arith, layouts-count)), le-ltb (layoutCount + n) (length codes) (omega (arith, codes-count)))
+
+pub unread : (s : List ℕ) (n : ℕ) → n ≡ layoutCount → placeIn codes s ≡ n + placeIn (drop n codes) s
+    → codeAt (layoutCount + placeIn passedCodes s) ≡ codeOf s
+unfolding codeOf
+unread s n q e =
+    let f : placeIn codes s ≡ layoutCount + placeIn (drop layoutCount codes) s =
+    subst (λ (m : ℕ). placeIn codes s ≡ m + placeIn (drop m codes) s) q e in
+    ap codeAt (sym (f ∙ ap (λ (l : List (List ℕ)). layoutCount + placeIn l s) behind))
 
 none-fits : (ps : List (List ℕ)) (s : List ℕ) → eqb (length s) 5 ≡ false → placeIn ps s ≡ length ps
 unfolding placeIn fits

@@ -4,30 +4,50 @@ use mathlib.Core.Bool.{Bool, true, false, cond, not, _&&_}
 use mathlib.Core.List.{List, [], _∷_, map}
 use Prim.Native.Nat.{ℕ, _+_, _*_, _/_, _%_, _<_, _≤_}
 use native.Mathlib.Omega.{arith}
-use native.Mathlib.Decide.{ℕ-discrete}
+use native.Mathlib.Decide.{ℕ-discrete, decLt}
 use borrow.Author.Tests.{eq-eqb, ne-eqb}
 use lib.Dec.{T, eqb, eqb→eq, leb, ltb, ltb→lt}
 use lib.ListN.{length, getD, length-map, List·getD-map, List·getD-eq-default}
 use Rattle.layout.specs.Table.{layouts, passedCodes}
 use Rattle.layout.proofs.Every.{every, at, and-left, and-right}
 use Rattle.layout.proofs.Lines.{Others, above}
-use Rattle.codes.specs.Codes.{byteFits, fitsAt, fits, codes, patternCount}
-use Rattle.codes.specs.Words.{headOf, wordOf, patternOf, fitsWord}
-use Rattle.codes.proofs.Places.{codes-count}
+use Rattle.layout.specs.Layouts.{layoutAt}
+use Rattle.layout.specs.Packed.{layoutCount, headOf, wordOf, rowOf}
+use Rattle.layout.proofs.Places.{empty, layouts-count}
+use Rattle.codes.specs.Codes.{byteFits, fitsAt, fits, codes, passedCount, patternCount}
+use Rattle.codes.specs.Words.{passedOf, fitsWord}
+use Rattle.codes.proofs.Places.{codes-count, passed-count, codeIn, code-is}
 
-pub same-pattern : (k p : ℕ) → p ≡ k → patternOf k ≡ patternOf p
-same-pattern k p e = rw e
+pub same-passed : (k p : ℕ) → p ≡ k → passedOf k ≡ passedOf p
+same-passed k p e = rw e
 
-pub past-patterns : (p : ℕ) → Others 0 patternCount p → 0 ≡ patternOf p
-unfolding patternOf
-past-patterns p o =
-    sym (List·getD-eq-default (map wordOf codes) 0
-    (omega (arith, length-map codes wordOf, codes-count, above 0 patternCount p (omega arith) o)))
+pub past-passed : (p : ℕ) → Others 0 passedCount p → 0 ≡ passedOf p
+unfolding passedOf
+past-passed p o =
+    sym (List·getD-eq-default (map wordOf passedCodes) 0
+    (omega (arith, length-map passedCodes wordOf, passed-count, above 0 passedCount p (omega arith) o)))
 
--- the pattern with a number, of which the number is one
-pattern-word : (k : ℕ) → patternOf k ≡ wordOf (getD codes k [])
-unfolding patternOf wordOf headOf
-pattern-word k = List·getD-map wordOf codes k []
+-- the words of a list of patterns: one is 0 exactly past the last
+
+abbrev some : ℕ → List ℕ → Bool
+some i p = ltb 0 (wordOf p)
+
+module _ (ps : List (List ℕ)) (k w : ℕ) (e : w ≡ getD (map wordOf ps) k 0) where
+  word-is : w ≡ wordOf (getD ps k [])
+  unfolding wordOf headOf
+  word-is = e ∙ List·getD-map wordOf ps k []
+
+  word-inside : (w ≡ 0 → ⊥) → k < length ps
+  word-inside z = elim (decLt k (length ps)) [
+    | yes h ↦ h
+    | no h ↦ absurd (z (e ∙ List·getD-eq-default (map wordOf ps) 0 (omega (arith, length-map ps wordOf))))
+  ]
+
+  word-past : T (every some 0 ps) → w ≡ 0 → length ps ≤ k
+  word-past t z = elim (decLt k (length ps)) [
+    | yes h ↦ absurd (omega (arith, word-is, ltb→lt 0 (wordOf (getD ps k [])) (at some [] ps t k h)))
+    | no h ↦ omega arith
+  ]
 
 -- the bytes of a pattern come back out of its number, and the first three are themselves
 
@@ -118,9 +138,53 @@ module _ (s : List ℕ) (head fourth fifth : ℕ) (t : Taken s head fourth fifth
       )
       (joins (byteFits (getD p 0 0) (getD s 0 0)) (byteFits (getD p 1 0) (getD s 1 0)) (byteFits (getD p 2 0) (getD s 2 0)) (byteFits (getD p 3 0) (getD s 3 0)) (byteFits (getD p 4 0) (getD s 4 0)))
 
--- a code fits the number of a pattern exactly when it fits the pattern
-pub fits-pattern : (s : List ℕ) (head fourth fifth k w : ℕ) → Taken s head fourth fifth → k < patternCount → w ≡ patternOf k
-    → fitsWord w head fourth fifth ≡ fits (getD codes k []) s
-fits-pattern s head fourth fifth k w t h e =
-    ap (λ (x : ℕ). fitsWord x head fourth fifth) (e ∙ pattern-word k)
-    ∙ fits-made s head fourth fifth t (getD codes k []) (at (λ (i : ℕ). made 0) [] codes all-made k (omega (arith, codes-count)))
+-- a walk over the layouts: a row is 0 past the last, and a code fits any other exactly when it fits the pattern
+
+read-some : T (every some 0 (map codeIn layouts))
+unfolding layouts wordOf headOf
+read-some = tt
+
+module _ (k w : ℕ) (e : w ≡ rowOf k 0) where
+  read-row : w ≡ getD (map wordOf (map codeIn layouts)) k 0
+  unfolding rowOf layoutAt wordOf headOf
+  read-row = e ∙ sym (List·getD-map wordOf (map codeIn layouts) k [] ∙ ap wordOf (List·getD-map codeIn layouts k empty))
+
+  pub read-inside : (w ≡ 0 → ⊥) → k < layoutCount
+  read-inside z = omega (arith, word-inside (map codeIn layouts) k w read-row z, length-map layouts codeIn, layouts-count)
+
+  pub read-past : w ≡ 0 → layoutCount ≤ k
+  read-past z = omega (arith, word-past (map codeIn layouts) k w read-row read-some z, length-map layouts codeIn, layouts-count)
+
+  pub fits-read : (s : List ℕ) (head fourth fifth : ℕ) → Taken s head fourth fifth → k < layoutCount
+      → fitsWord w head fourth fifth ≡ fits (getD codes k []) s
+  unfolding rowOf
+  fits-read s head fourth fifth t h =
+      ap (λ (x : ℕ). fitsWord x head fourth fifth) (e ∙ ap wordOf (sym (code-is k h)))
+      ∙ fits-made s head fourth fifth t (getD codes k []) (at (λ (i : ℕ). made 0) [] codes all-made k (omega (arith, codes-count)))
+
+-- the same of a walk over the passed codes
+
+passed-some : T (every some 0 passedCodes)
+unfolding passedCodes wordOf headOf
+passed-some = tt
+
+passed-made : T (every (λ (i : ℕ). made 0) 0 passedCodes)
+unfolding passedCodes wordOf headOf
+passed-made = tt
+
+module _ (k w : ℕ) (e : w ≡ passedOf k) where
+  passed-row : w ≡ getD (map wordOf passedCodes) k 0
+  unfolding passedOf
+  passed-row = e
+
+  pub passed-inside : (w ≡ 0 → ⊥) → k < passedCount
+  passed-inside z = omega (arith, word-inside passedCodes k w passed-row z, passed-count)
+
+  pub passed-past : w ≡ 0 → passedCount ≤ k
+  passed-past z = omega (arith, word-past passedCodes k w passed-row passed-some z, passed-count)
+
+  pub fits-passed : (s : List ℕ) (head fourth fifth : ℕ) → Taken s head fourth fifth → k < passedCount
+      → fitsWord w head fourth fifth ≡ fits (getD passedCodes k []) s
+  fits-passed s head fourth fifth t h =
+      ap (λ (x : ℕ). fitsWord x head fourth fifth) (word-is passedCodes k w passed-row)
+      ∙ fits-made s head fourth fifth t (getD passedCodes k []) (at (λ (i : ℕ). made 0) [] passedCodes passed-made k (omega (arith, passed-count)))

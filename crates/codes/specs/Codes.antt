@@ -38,6 +38,9 @@ codeAt n = cond (ltb n (length layouts)) (Read n) (cond (ltb n (length codes)) P
 unfoldable pub codeOf : List ℕ → Code
 codeOf s = codeAt (placeIn codes s)
 
--- how many patterns there are
+-- how many passed codes there are, and how many patterns in all
+abbrev pub passedCount : ℕ
+passedCount = length passedTable
+
 abbrev pub patternCount : ℕ
-patternCount = length readTable + length passedTable
+patternCount = length readTable + passedCount

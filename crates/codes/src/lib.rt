@@ -1,18 +1,18 @@
 // What the code of a card is: read by a layout, passed, or unknown.
-use layout::LAYOUTS;
 ghost use mathlib.Core.Path.{_≡_};
 ghost use Prim.Native.Nat.{ℕ, _<_, _≤_, _+_, _*_};
 ghost use mathlib.Core.List.{List};
 ghost use lib.ListN.{length, drop};
-ghost use Rattle.codes.specs.Codes.{byteFits, codes, placeIn, codeOf, patternCount};
-ghost use Rattle.codes.specs.Words.{headOf, fitsWord};
+ghost use Rattle.layout.specs.Table.{passedCodes};
+ghost use Rattle.layout.specs.Packed.{headOf, layoutCount};
+ghost use Rattle.codes.specs.Codes.{byteFits, codes, placeIn, codeAt, codeOf};
+ghost use Rattle.codes.specs.Words.{fitsWord};
 
 mod rows;
 
-use rows::CODES;
-use rows::pattern;
+use rows::passed;
 
-// Heads, the first three bytes of a code as one number: the least with an H, and those at which patterns begin.
+// Heads, the first three bytes of a code as one number: the least with an H, and those at which layouts begin.
 const H: u64 = 0x48_00_00;
 
 const H01: u64 = 0x48_30_31;
@@ -24,8 +24,6 @@ const H21: u64 = 0x48_32_31;
 const H22: u64 = 0x48_32_32;
 
 const H23: u64 = 0x48_32_33;
-
-const H24: u64 = 0x48_32_34;
 
 // A card's code: read by the layout with a number, passed, or unknown.
 pub enum Code {
@@ -66,15 +64,13 @@ fn fits_word(word: u64, head: u64, fourth: u8, fifth: u8) -> bool
     byte_fits((word / 256 % 256) as u8, fourth)
 }
 
-// A pattern before which none fits a code with a head: the comments, or the first that begins with no lower head.
+// A layout before which none reads a code with a head: the comments, or the first that begins with no lower head. Layouts
+// behind the last one change nothing here.
 fn start_of(head: u64) -> usize
-    ensures { λ r. ⌜ (r ≤ patternCount) × ((s : List ℕ) → headOf s ≡ head → placeIn codes s ≡ r + placeIn (drop r codes) s) ⌝ }
+    ensures { λ r. ⌜ (r ≤ layoutCount) × ((s : List ℕ) → headOf s ≡ head → placeIn codes s ≡ r + placeIn (drop r codes) s) ⌝ }
 {
     if head < H {
         return 10;
-    }
-    if H24 <= head {
-        return LAYOUTS;
     }
     if H23 <= head {
         return 23;
@@ -94,38 +90,54 @@ fn start_of(head: u64) -> usize
     0
 }
 
-// The number of the first pattern that a code fits: one comparison for most of the patterns before it.
-fn place_in(code: &[u8]) -> usize
+// What a code is that no layout reads: one walk over the passed codes.
+fn passed_by(code: &[u8]) -> Code
     requires { ⌜ length (now code) ≡ 5 ⌝ }
-    ensures { λ r. ⌜ r ≡ placeIn codes (now (code .entry)) ⌝ }
+    ensures { λ r. ⌜ r ≡ codeAt (layoutCount + placeIn passedCodes (now (code .entry))) ⌝ }
+{
+    let head = head_of(code[0], code[1], code[2]);
+    let fourth = code[3];
+    let fifth = code[4];
+    let mut number = 0;
+    loop {
+        let word = passed(number);
+        if word == 0 {
+            return Code::Unknown;
+        }
+        if fits_word(word, head, fourth, fifth) {
+            return Code::Passed;
+        }
+        number += 1;
+    }
+}
+
+// What five bytes are as a code: one walk over the layouts, one comparison for most of them.
+fn read_by(code: &[u8]) -> Code
+    requires { ⌜ length (now code) ≡ 5 ⌝ }
+    ensures { λ r. ⌜ r ≡ codeOf (now (code .entry)) ⌝ }
 {
     let head = head_of(code[0], code[1], code[2]);
     let fourth = code[3];
     let fifth = code[4];
     let mut number = start_of(head);
-    while number < CODES {
-        if fits_word(pattern(number), head, fourth, fifth) {
-            return number;
+    loop {
+        let word = layout::row_of(number, 0);
+        if word == 0 {
+            return passed_by(code);
+        }
+        if fits_word(word, head, fourth, fifth) {
+            return Code::Read(number);
         }
         number += 1;
     }
-    number
 }
 
-// What some bytes are as a code: one walk, over the patterns of the layouts for a read code, over the passed ones too for
-// any other.
+// What some bytes are as a code.
 pub fn code_of(code: &[u8]) -> Code
     ensures { λ r. ⌜ r ≡ codeOf (now (code .entry)) ⌝ }
 {
     if code.len() != 5 {
         return Code::Unknown;
     }
-    let number = place_in(code);
-    if number < LAYOUTS {
-        return Code::Read(number);
-    }
-    if number < CODES {
-        return Code::Passed;
-    }
-    Code::Unknown
+    read_by(code)
 }

@@ -99,6 +99,9 @@ pub fn field_in(row: u64) -> Field
 pub fn field_of(layout: usize, number: usize) -> Found
     ensures { λ r. ⌜ r ≡ fieldOf layout number ⌝ }
 {
+    if number == 0 {
+        return Found::Nothing;
+    }
     let row = layout::row_of(layout, number);
     if row == 0 {
         return Found::Nothing;

@@ -7,19 +7,19 @@ use mathlib.Core.Path.{_≡_, refl, sym, ap, _∙_}
 use mathlib.Core.Logic.{_↔_}
 use mathlib.Core.Bool.{Bool, true, false, cond}
 use mathlib.Core.List.{List, [], _∷_, map}
-use lib.ListN.{length, getD, take, length-map, List·getD-append, List·getD-map}
+use lib.ListN.{length, getD, take}
 use borrow.Author.Tests.{lt-ltb, le-ltb, eqb-true}
 use lib.Dec.{eqb}
 use lib.Seq.{getD-take}
 use Rattle.codes.specs.declared.Code.{Code}
 use Rattle.codes.specs.declared.Code.the-variants.{Read, Passed, Unknown}
-use Rattle.layout.specs.Shape.{Layout, bytes}
+use Rattle.layout.specs.Shape.{bytes}
 use Rattle.layout.specs.Table.{layouts, passedCodes}
 use Rattle.codes.specs.Codes.{byteFits, fitsAt, fits, codes, placeIn, codeAt, codeOf}
 use Rattle.layout.specs.Layouts.{layoutAt}
 use Rattle.layout.specs.Packed.{layoutCount}
 use Rattle.layout.proofs.Places.{layouts-count}
-use Rattle.codes.proofs.Places.{codes-count}
+use Rattle.codes.proofs.Places.{codes-count, code-is}
 use Rattle.codes.proofs.Apart.{read-as, in-each}
 use Rattle.forms.specs.Cards.{numberOf, layoutOf, lineCard, waypointCard, gridCard, pointCard}
 use Rattle.forms.specs.Notes.{noteCard}
@@ -44,15 +44,6 @@ stops-at (p ∷ ps) s k e h = go (fits p s) refl (λ j. stops-at ps s j) k e h
     go true f ih (suc k) e h = absurd (omega (arith, rw f at e))
     go false f ih zero e h = absurd (omega (arith, rw f at e))
     go false f ih (suc k) e h = ih k (omega (arith, rw f at e)) (omega arith)
-
-abbrev codeIn : Layout → List ℕ
-codeIn l = l .code
-
-code-is : (k : ℕ) → k < layoutCount → getD codes k [] ≡ layoutAt k .code
-unfolding codes layoutAt
-code-is k h =
-    List·getD-append (map codeIn layouts) passedCodes [] k (omega (arith, length-map layouts codeIn, layouts-count))
-    ∙ List·getD-map codeIn layouts k (record { code = []; label = []; fields = [] })
 
 read-number : (m n : ℕ) → Read m ≡ Read n → m ≡ n
 read-number m n e = cc

@@ -17,11 +17,12 @@ use Rattle.layout.proofs.Places.{empty, layouts-count, no-label}
 use Rattle.layout.proofs.Every.{every, at}
 use Rattle.layout.proofs.Lines.{Others, above}
 
-pub same-label : (k p : ℕ) → p ≡ k → labelRow k ≡ labelRow p
-same-label k p e = rw e
+-- a label with its blanks, and its length
+abbrev pub Labels : ℕ → List ℕ → ℕ → Type 0
+Labels k t w = (t ≡ labelRow k) × (w ≡ length (labelOf k))
 
-pub as-long : (k p : ℕ) → p ≡ k → length (labelOf k) ≡ length (labelOf p)
-as-long k p e = rw e
+pub same-label : (k p : ℕ) → p ≡ k → (t : List ℕ) (w : ℕ) → Labels k t w → Labels p t w
+same-label k p e t w h = rw e h
 
 -- only the first layouts have a label
 
@@ -47,16 +48,15 @@ unlabelled k h = elim (decLt k layoutCount) [
   | no g ↦ no-label k (omega arith)
 ]
 
-pub no-length : (p : ℕ) → Others 0 9 p → 0 ≡ length (labelOf p)
-no-length p o = sym (unlabelled p (above 0 9 p (omega arith) o))
-
 nil : (l : List ℕ) → length l ≡ 0 → l ≡ []
 nil [] e = refl
 nil (x ∷ l) e = absurd (omega arith)
 
-pub no-label-row : (p : ℕ) → Others 0 9 p → replicate 23 32 ≡ labelRow p
+pub no-label-row : (p : ℕ) → Others 0 9 p → (t : List ℕ) (w : ℕ) → (t ≡ replicate 23 32) × (w ≡ 0) → Labels p t w
 unfolding labelRow
-no-label-row p o = rw (nil (labelOf p) (unlabelled p (above 0 9 p (omega arith) o)))
+no-label-row p o t w h =
+    let u : length (labelOf p) ≡ 0 = unlabelled p (above 0 9 p (omega arith) o) in
+    (h .0 ∙ rw (nil (labelOf p) u), omega (arith, h .1))
 
 -- a byte of a label and its blanks is the label's, or a blank
 

@@ -7,21 +7,33 @@ ghost use Rattle.layout.specs.Packed.{labelRow};
 // The columns of the longest label.
 const LABEL: usize = 23;
 
-// A layout's label and the blanks behind it.
-fn label_row(layout: usize) -> [u8; LABEL]
-    ensures { λ r. ⌜ r ≡ labelRow layout ⌝ }
+// A label with the blanks behind it, and how many columns it fills.
+struct Label {
+    text: [u8; LABEL],
+    width: usize,
+}
+
+fn words(text: [u8; LABEL], width: usize) -> Label
+    ensures { λ r. ⌜ (r .text ≡ text) × (r .width ≡ width) ⌝ }
+{
+    Label { text, width }
+}
+
+// A layout's label, a line each.
+fn label_row(layout: usize) -> Label
+    ensures { λ r. ⌜ (r .text ≡ labelRow layout) × (r .width ≡ length (labelOf layout)) ⌝ }
 {
     match layout {
-        0 => *b"Line Name:             ",
-        1 => *b"Project Name:          ",
-        2 => *b"Project Description:   ",
-        3 => *b"Media Specification:   ",
-        4 => *b"Client:                ",
-        5 => *b"Geophysical Contractor:",
-        6 => *b"Positioning Contractor:",
-        7 => *b"Processing Contractor: ",
-        8 => *b"Line Parameters Vessel:",
-        _ => [b' '; LABEL],
+        0 => words(*b"Line Name:             ", 10),
+        1 => words(*b"Project Name:          ", 13),
+        2 => words(*b"Project Description:   ", 20),
+        3 => words(*b"Media Specification:   ", 20),
+        4 => words(*b"Client:                ", 7),
+        5 => words(*b"Geophysical Contractor:", 23),
+        6 => words(*b"Positioning Contractor:", 23),
+        7 => words(*b"Processing Contractor: ", 22),
+        8 => words(*b"Line Parameters Vessel:", 23),
+        _ => words([b' '; LABEL], 0),
     }
 }
 
@@ -29,18 +41,8 @@ fn label_row(layout: usize) -> [u8; LABEL]
 pub fn label_length(layout: usize) -> usize
     ensures { λ r. ⌜ r ≡ length (labelOf layout) ⌝ }
 {
-    match layout {
-        0 => 10,
-        1 => 13,
-        2 => 20,
-        3 => 20,
-        4 => 7,
-        5 => 23,
-        6 => 23,
-        7 => 22,
-        8 => 23,
-        _ => 0,
-    }
+    let label = label_row(layout);
+    label.width
 }
 
 // What a new card has in column 6 + place: the label's byte, and a blank past the label.
@@ -51,5 +53,5 @@ pub fn label_byte(layout: usize, place: usize) -> u8
         return 32;
     }
     let label = label_row(layout);
-    label[place]
+    label.text[place]
 }

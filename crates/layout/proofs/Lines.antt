@@ -14,7 +14,7 @@ use Rattle.layout.specs.declared.Found.the-variants.{Is, Nothing}
 use Rattle.layout.specs.Shape.{Layout}
 use Rattle.layout.specs.Table.{layouts}
 use Rattle.layout.specs.Layouts.{layoutAt, fieldsOf, fieldOf, noField}
-use Rattle.layout.specs.Packed.{layoutCount, tens, hundreds, kindOf, rangeOf, pack, unpack, rowOf, foundIn}
+use Rattle.layout.specs.Packed.{layoutCount, tens, hundreds, kindOf, rangeOf, pack, unpack, headOf, wordOf, rowOf, foundIn}
 use Rattle.layout.proofs.Places.{empty, past}
 
 -- the last arm of a `match`: the number is none of so many, from one on
@@ -36,15 +36,15 @@ above a (suc m) q h o =
 pub same-row : (k n p q : ℕ) → p ≡ k → q ≡ n → rowOf k n ≡ rowOf p q
 same-row k n p q e f = rw (e, f)
 
-beyond : (l : List ℕ) (q : ℕ) → Others 1 (length l) q → 0 ≡ getD (0 ∷ l) q 0
-beyond l zero o = refl
-beyond l (suc q) o = sym (List·getD-eq-default l 0 (omega (arith, above 1 (length l) (suc q) (omega arith) o)))
+beyond : (l : List ℕ) (q : ℕ) → Others 0 (length l) q → 0 ≡ getD l q 0
+beyond l q o = sym (List·getD-eq-default l 0 (omega (arith, above 0 (length l) q (omega arith) o)))
 
-pub past-fields : (k p q : ℕ) → p ≡ k → Others 1 (length (map pack (fieldsOf k))) q → 0 ≡ rowOf p q
+pub past-fields : (k p q : ℕ) → p ≡ k → Others 0 (suc (length (map pack (fieldsOf k)))) q → 0 ≡ rowOf p q
 unfolding rowOf
-past-fields k p q e o = rw e (beyond (map pack (fieldsOf k)) q o)
+past-fields k p q e o = rw e (beyond (wordOf (layoutAt k .code) ∷ map pack (fieldsOf k)) q o)
 
-zero-only : (q : ℕ) → 0 ≡ getD (0 ∷ map pack (empty .fields)) q 0
+zero-only : (q : ℕ) → 0 ≡ getD (wordOf (empty .code) ∷ map pack (empty .fields)) q 0
+unfolding wordOf headOf
 zero-only zero = refl
 zero-only (suc q) = refl
 
@@ -52,7 +52,7 @@ pub past-rows : (p q : ℕ) → Others 0 layoutCount p → 0 ≡ rowOf p q
 unfolding rowOf fieldsOf
 past-rows p q o =
     zero-only q
-    ∙ ap (λ (l : Layout). getD (0 ∷ map pack (l .fields)) q 0) (sym (past p (above 0 layoutCount p (omega arith) o)))
+    ∙ ap (λ (l : Layout). getD (wordOf (l .code) ∷ map pack (l .fields)) q 0) (sym (past p (above 0 layoutCount p (omega arith) o)))
 
 -- what the number of a field holds is the field
 
@@ -71,10 +71,15 @@ there [] i h = absurd (not-suc-le-zero h)
 there (f ∷ fs) zero h = refl
 there (f ∷ fs) (suc i) h = there fs i (le-of-suc-le-suc h)
 
-pub found-in : (k n : ℕ) → foundIn (rowOf k n) ≡ fieldOf k n
+-- no field has the number 0, and from 1 on a row is a field's
+pub no-zeroth : (k n : ℕ) → n ≡ 0 → Nothing ≡ fieldOf k n
+unfolding fieldOf
+no-zeroth k n e = rw e
+
+pub found-in : (k n : ℕ) → (n ≡ 0 → ⊥) → foundIn (rowOf k n) ≡ fieldOf k n
 unfolding rowOf foundIn fieldOf
-found-in k zero = refl
-found-in k (suc i) =
+found-in k zero p = absurd (p refl)
+found-in k (suc i) p =
     let e : foundIn (getD (map pack (fieldsOf k)) i 0) ≡ getD (map Is (fieldsOf k)) i Nothing =
     sym (List·getD-map foundIn (map pack (fieldsOf k)) i 0) ∙ ap (λ (l : List Found). getD l i Nothing) (fields-found k) in
     let q : suc i - 1 ≡ i = omega arith in
@@ -83,13 +88,13 @@ found-in k (suc i) =
       | no h ↦ rw (le-leb 1 (suc i) (omega arith), lt-leb (suc i) (length (fieldsOf k)) (omega arith)) (List·getD-eq-default (map Is (fieldsOf k)) Nothing (omega (arith, length-map (fieldsOf k) Is)))
     ]
 
-pub is-none : (k n r : ℕ) → r ≡ rowOf k n → r ≡ 0 → Nothing ≡ fieldOf k n
+pub is-none : (k n r : ℕ) → (n ≡ 0 → ⊥) → r ≡ rowOf k n → r ≡ 0 → Nothing ≡ fieldOf k n
 unfolding foundIn
-is-none k n r e z = ap foundIn (sym z ∙ e) ∙ found-in k n
+is-none k n r p e z = ap foundIn (sym z ∙ e) ∙ found-in k n p
 
 holds : (r : ℕ) → (r ≡ 0 → ⊥) → Is (unpack r) ≡ foundIn r
 unfolding foundIn
 holds r z = rw (ne-eqb r 0 z)
 
-pub is-found : (k n r : ℕ) (f : Field) → r ≡ rowOf k n → (r ≡ 0 → ⊥) → f ≡ unpack r → Is f ≡ fieldOf k n
-is-found k n r f e z u = ap (λ (g : Field). Is g) u ∙ holds r z ∙ ap foundIn e ∙ found-in k n
+pub is-found : (k n r : ℕ) (f : Field) → (n ≡ 0 → ⊥) → r ≡ rowOf k n → (r ≡ 0 → ⊥) → f ≡ unpack r → Is f ≡ fieldOf k n
+is-found k n r f p e z u = ap (λ (g : Field). Is g) u ∙ holds r z ∙ ap foundIn e ∙ found-in k n p

@@ -18,15 +18,18 @@ use Rattle.layout.proofs.Lines.{is-none, is-found}
 use Rattle.layout.proofs.Numbers.{numbered, never-nothing}
 
 module _ (k n r : ℕ) (is : r ≡ rowOf k (n + 1)) where
+  one-on : n + 1 ≡ 0 → ⊥
+  one-on e = omega arith
+
   pub row-there : (r ≡ 0 → ⊥) → fieldOf k (n + 1) ≡ Is (unpack r)
-  row-there z = sym (is-found k (n + 1) r (unpack r) is z refl)
+  row-there z = sym (is-found k (n + 1) r (unpack r) one-on is z refl)
 
   pub row-inside : (r ≡ 0 → ⊥) → n < length (fieldsOf k)
   row-inside z = omega (arith, numbered k (n + 1) (unpack r) (row-there z) .within)
 
   pub row-past : r ≡ 0 → length (fieldsOf k) ≤ n
   row-past z = elim (decLt n (length (fieldsOf k))) [
-    | yes h ↦ absurd (never-nothing k n h (sym (is-none k (n + 1) r is z)))
+    | yes h ↦ absurd (never-nothing k n h (sym (is-none k (n + 1) r one-on is z)))
     | no h ↦ omega arith
   ]
 

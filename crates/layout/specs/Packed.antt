@@ -1,4 +1,4 @@
--- How the code holds the table: a field as one number, whose hexadecimal digits are read as decimal ones.
+-- How the code holds the table: a code's bytes as one number, and a field as one whose hexadecimal digits are read as decimal ones.
 use Prim.Native.Nat.{ℕ, _+_, _-_, _*_, _/_, _%_}
 use mathlib.Core.Bool.{Bool, true, false, cond}
 use mathlib.Core.List.{List, [], _∷_, _++_, map}
@@ -12,7 +12,7 @@ use Rattle.layout.specs.declared.Field.{Field}
 use Rattle.layout.specs.declared.Found.{Found}
 use Rattle.layout.specs.declared.Found.the-variants.{Is, Nothing}
 use Rattle.layout.specs.Table.{readTable}
-use Rattle.layout.specs.Layouts.{fieldsOf, labelOf}
+use Rattle.layout.specs.Layouts.{layoutAt, fieldsOf, labelOf}
 
 -- how many layouts there are
 abbrev pub layoutCount : ℕ
@@ -84,11 +84,18 @@ unpack n =
       range = rangeOf (n / 16777216);
     }
 
--- the field with a number, counted from 1, of a layout, as one number; 0 where there is none
-unfoldable pub rowOf : ℕ → ℕ → ℕ
-rowOf k n = getD (0 ∷ map pack (fieldsOf k)) n 0
+-- the first three bytes of a code as one number, and all five
+unfoldable pub headOf : List ℕ → ℕ
+headOf s = (getD s 0 0 * 256 + getD s 1 0) * 256 + getD s 2 0
 
--- the answer that such a number holds
+unfoldable pub wordOf : List ℕ → ℕ
+wordOf s = (headOf s * 256 + getD s 3 0) * 256 + getD s 4 0
+
+-- the rows of a layout: its code, and its fields counted from 1; 0 where there is none with the number
+unfoldable pub rowOf : ℕ → ℕ → ℕ
+rowOf k n = getD (wordOf (layoutAt k .code) ∷ map pack (fieldsOf k)) n 0
+
+-- the answer that a field's number holds
 unfoldable pub foundIn : ℕ → Found
 foundIn r = cond (eqb r 0) Nothing (Is (unpack r))
 

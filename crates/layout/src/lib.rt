@@ -1,7 +1,6 @@
 // The layout table: what a field is, and the row of each field of each code.
 mod rows;
 
-pub use rows::LAYOUTS;
 pub use rows::row_of;
 
 // How a field is spelled. A comment is a text that may begin with blanks.

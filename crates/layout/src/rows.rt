@@ -1,40 +1,40 @@
-// The layout table as the code holds it: one line a field. The check compares all of it with the specification.
+// The layout table as the code holds it: a block a code, a line a field; a new code is one more block behind the last. The check
+// compares all of it with the specification, and nothing else counts its codes or fields.
 // A `match` whose arms are constants becomes constant data; an array would be written out anew wherever it is used.
 ghost use mathlib.Core.Path.{_≡_};
 ghost use Rattle.layout.specs.Packed.{rowOf};
 
-pub const LAYOUTS: usize = 26;
-
-// A field as one number: its digits, read as decimal ones, are its kind, its mark, its first and its last column. The kinds:
+// Row 0 is the five bytes of a layout's code: 48 is H, 43 is C, 30 to 39 are the digits, 40 is @ for 1 to 9, 23 is # for 0 to 9.
+// A field is one number: its digits, read as decimal ones, are its kind, its mark, its first and its last column. The kinds:
 // a text, c comment, 1 whole number, 2 decimal, d date, e latitude, f longitude. The mark: 1 needed, 2 of a second set, 3 both.
 // A range stands before these: 1 at least the first number, 2 from the first to the second, 3 one of the three.
-// The answer is 0 where a layout has no field with the number.
+// The answer is 0 where a layout has no row with the number, and past the last layout.
 pub fn row_of(layout: usize, number: usize) -> u64
     ensures { λ r. ⌜ r ≡ rowOf layout number ⌝ }
 {
     match layout {
-        // H0000
         0 => match number {
+            0 => 0x48_30_30_30_30, // H0000
             1 => 0xa_0_29_44,
             2 => 0x1_0_46_49,
             3 => 0xa_0_50_80,
             _ => 0,
         },
-        // H0001
         1 => match number {
+            0 => 0x48_30_30_30_31, // H0001
             1 => 0xa_0_29_36,
             2 => 0xa_0_38_62,
             3 => 0xd_0_64_71,
             4 => 0xd_0_73_80,
             _ => 0,
         },
-        // H0002
         2 => match number {
+            0 => 0x48_30_30_30_32, // H0002
             1 => 0xa_0_29_80,
             _ => 0,
         },
-        // H0003
         3 => match number {
+            0 => 0x48_30_30_30_33, // H0003
             1 => 0xd_0_29_36,
             2 => 0xa_0_38_47,
             3 => 0xa_0_49_64,
@@ -42,28 +42,28 @@ pub fn row_of(layout: usize, number: usize) -> u64
             5 => 0x2_0_78_80,
             _ => 0,
         },
-        // H0004
         4 => match number {
+            0 => 0x48_30_30_30_34, // H0004
             1 => 0xa_0_29_80,
             _ => 0,
         },
-        // H0005
         5 => match number {
+            0 => 0x48_30_30_30_35, // H0005
             1 => 0xa_0_29_80,
             _ => 0,
         },
-        // H0006
         6 => match number {
+            0 => 0x48_30_30_30_36, // H0006
             1 => 0xa_0_29_80,
             _ => 0,
         },
-        // H0007
         7 => match number {
+            0 => 0x48_30_30_30_37, // H0007
             1 => 0xa_0_29_80,
             _ => 0,
         },
-        // H00#8
         8 => match number {
+            0 => 0x48_30_30_23_38, // H00#8
             1 => 0x2_000_009_000_1_1_30_30,
             2 => 0x2_000_001_000_1_1_32_32,
             3 => 0xe_0_34_45,
@@ -75,8 +75,8 @@ pub fn row_of(layout: usize, number: usize) -> u64
             9 => 0x2_000_099_000_1_0_79_80,
             _ => 0,
         },
-        // H00#9
         9 => match number {
+            0 => 0x48_30_30_23_39, // H00#9
             1 => 0x2_000_009_000_1_1_07_07,
             2 => 0x1_000_000_000_1_1_09_11,
             3 => 0xe_0_13_24,
@@ -86,26 +86,26 @@ pub fn row_of(layout: usize, number: usize) -> u64
             7 => 0xf_2_56_67,
             _ => 0,
         },
-        // C0001
         10 => match number {
+            0 => 0x43_30_30_30_31, // C0001
             1 => 0xc_0_06_80,
             _ => 0,
         },
-        // C0002
         11 => match number {
+            0 => 0x43_30_30_30_32, // C0002
             1 => 0xc_0_06_80,
             _ => 0,
         },
-        // H0100
         12 => match number {
+            0 => 0x48_30_31_30_30, // H0100
             1 => 0xd_0_07_14,
             2 => 0x1_000_000_000_1_0_16_19,
             3 => 0x2_000_001_000_1_1_21_21,
             4 => 0xa_0_23_80,
             _ => 0,
         },
-        // H0101
         13 => match number {
+            0 => 0x48_30_31_30_31, // H0101
             1 => 0x1_000_000_000_1_1_07_10,
             2 => 0xe_0_12_23,
             3 => 0xf_0_25_36,
@@ -113,8 +113,8 @@ pub fn row_of(layout: usize, number: usize) -> u64
             5 => 0x2_0_46_51,
             _ => 0,
         },
-        // H011@
         14 => match number {
+            0 => 0x48_30_31_31_40, // H011@
             1 => 0xa_0_07_24,
             2 => 0xa_0_25_43,
             3 => 0x2_0_44_55,
@@ -122,8 +122,8 @@ pub fn row_of(layout: usize, number: usize) -> u64
             5 => 0x2_0_70_80,
             _ => 0,
         },
-        // H0120
         15 => match number {
+            0 => 0x48_30_31_32_30, // H0120
             1 => 0x2_001_009_000_1_1_07_07,
             2 => 0x2_001_009_000_1_1_09_09,
             3 => 0x2_000_001_000_1_0_11_11,
@@ -136,8 +136,8 @@ pub fn row_of(layout: usize, number: usize) -> u64
             10 => 0x2_0_73_80,
             _ => 0,
         },
-        // H17@0
         16 => match number {
+            0 => 0x48_31_37_40_30, // H17@0
             1 => 0x1_000_000_000_1_1_07_07,
             2 => 0x2_000_001_000_1_0_09_09,
             3 => 0x2_000_001_000_1_0_10_10,
@@ -154,14 +154,14 @@ pub fn row_of(layout: usize, number: usize) -> u64
             14 => 0xa_0_60_80,
             _ => 0,
         },
-        // H17@1
         17 => match number {
+            0 => 0x48_31_37_40_31, // H17@1
             1 => 0x1_000_000_000_1_1_07_07,
             2 => 0xa_0_09_80,
             _ => 0,
         },
-        // H21@0
         18 => match number {
+            0 => 0x48_32_31_40_30, // H21@0
             1 => 0x1_000_000_000_1_1_07_09,
             2 => 0x2_0_11_17,
             3 => 0x2_0_19_25,
@@ -173,8 +173,8 @@ pub fn row_of(layout: usize, number: usize) -> u64
             9 => 0x2_0_66_71,
             _ => 0,
         },
-        // H21@1
         19 => match number {
+            0 => 0x48_32_31_40_31, // H21@1
             1 => 0x1_000_000_000_1_1_07_09,
             2 => 0x2_0_11_15,
             3 => 0x2_0_17_21,
@@ -191,18 +191,18 @@ pub fn row_of(layout: usize, number: usize) -> u64
             14 => 0x2_000_004_000_1_0_71_71,
             _ => 0,
         },
-        // H21@2
         20 => match number {
+            0 => 0x48_32_31_40_32, // H21@2
             1 => 0xa_0_07_80,
             _ => 0,
         },
-        // H21@3
         21 => match number {
+            0 => 0x48_32_31_40_33, // H21@3
             1 => 0xa_0_07_80,
             _ => 0,
         },
-        // H22@0
         22 => match number {
+            0 => 0x48_32_32_40_30, // H22@0
             1 => 0x1_000_000_000_1_1_07_09,
             2 => 0x1_001_000_000_1_1_11_14,
             3 => 0xa_0_16_23,
@@ -214,13 +214,13 @@ pub fn row_of(layout: usize, number: usize) -> u64
             9 => 0x2_000_001_000_1_2_59_59,
             _ => 0,
         },
-        // H2300
         23 => match number {
+            0 => 0x48_32_33_30_30, // H2300
             1 => 0xa_0_07_80,
             _ => 0,
         },
-        // H23@0
         24 => match number {
+            0 => 0x48_32_33_40_30, // H23@0
             1 => 0xa_1_07_14,
             2 => 0x2_0_15_20,
             3 => 0x2_000_360_000_1_0_21_23,
@@ -241,8 +241,8 @@ pub fn row_of(layout: usize, number: usize) -> u64
             18 => 0x2_0_73_76,
             _ => 0,
         },
-        // H2301
         25 => match number {
+            0 => 0x48_32_33_30_31, // H2301
             1 => 0x2_000_001_000_1_0_07_07,
             2 => 0xa_0_09_80,
             _ => 0,

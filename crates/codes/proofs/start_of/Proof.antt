@@ -12,10 +12,9 @@ start-of-spec =
     tie.close
     (tie.spec
     (λ c. (omega arith, from-comments _ (c .if1 .taken)))
-    (λ c. (omega arith, from-head 26 4731444 (omega arith) tt _ (c .if2 .taken)))
-    (λ c. (omega arith, from-head 23 4731443 (omega arith) tt _ (c .if3 .taken)))
-    (λ c. (omega arith, from-head 22 4731442 (omega arith) tt _ (c .if4 .taken)))
-    (λ c. (omega arith, from-head 18 4731441 (omega arith) tt _ (c .if5 .taken)))
-    (λ c. (omega arith, from-head 16 4731191 (omega arith) tt _ (c .if6 .taken)))
-    (λ c. (omega arith, from-head 12 4730929 (omega arith) tt _ (c .if7 .taken)))
+    (λ c. (omega arith, from-head 23 4731443 (omega arith) tt _ (c .if2 .taken)))
+    (λ c. (omega arith, from-head 22 4731442 (omega arith) tt _ (c .if3 .taken)))
+    (λ c. (omega arith, from-head 18 4731441 (omega arith) tt _ (c .if4 .taken)))
+    (λ c. (omega arith, from-head 16 4731191 (omega arith) tt _ (c .if5 .taken)))
+    (λ c. (omega arith, from-head 12 4730929 (omega arith) tt _ (c .if6 .taken)))
     (λ c. (omega arith, λ s e. omega arith)))

@@ -10,11 +10,11 @@ returns c = label-past _ _ (c .if1 .taken)
 label-row-requires : tie.Need-label-row-requires
 label-row-requires c κs = search needs
 
-array-read-result : tie.Need-array-read-result
-array-read-result c = search needs
+element-copy-out-result : tie.Need-element-copy-out-result
+element-copy-out-result c = search needs
 
 returns-2 : tie.Need-returns-2
-returns-2 c = label-byte-is _ _ (search needs) _ (c .label-row .ensures)
+returns-2 c = label-byte-is _ _ (search needs) _ (c .before .label-row .ensures .0)
 
 pub label-byte-spec : {M : Type 1} → statement M
-label-byte-spec = tie.close (tie.spec returns label-row-requires array-read-result returns-2)
+label-byte-spec = tie.close (tie.spec returns label-row-requires element-copy-out-result returns-2)
