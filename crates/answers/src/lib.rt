@@ -13,6 +13,9 @@ use ties::Ties;
 ghost use mathlib.Core.Path.{_≡_};
 ghost use Rattle.answers.specs.Replies.{plain, refusedReply, doneReply, valueReply, fieldReply, textReply, enteredReply, openedReply, countReply, atReply, tiesReply, definitionsReply, placeReply};
 
+// What the answer with a text says.
+const TEXT: i64 = 5;
+
 // What an answer says, and the numbers that go with it.
 pub struct Reply {
     pub said: i64,
@@ -77,7 +80,7 @@ fn of_columns(c: Columns) -> Reply
     let first = c.first;
     let last = c.last;
     Reply {
-        said: 5,
+        said: TEXT,
         first: plain_of(first),
         second: plain_of(last),
         third: 0,
@@ -132,18 +135,15 @@ pub fn of_field(read: FieldRead) -> Reply
     }
 }
 
-// The reading of a field as a text.
-pub fn of_text(read: FieldRead) -> Reply
-    ensures { λ r. ⌜ r ≡ textReply read ⌝ }
+// The reading of a field as a text, by the answer to it: all but a text is none.
+pub fn of_text(reply: Reply) -> Reply
+    ensures { λ r. ⌜ ((read : FieldRead) → reply ≡ fieldReply read → r ≡ textReply read) ⌝ }
 {
-    let FieldRead::Is(v) = read else {
-        return done();
-    };
-    if let Value::Text(c) = v {
-        of_columns(c)
-    } else {
-        done()
+    let said = reply.said;
+    if said == TEXT {
+        return reply;
     }
+    done()
 }
 
 // What came of an entry.

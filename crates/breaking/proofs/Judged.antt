@@ -22,8 +22,8 @@ use Rattle.breaking.specs.Ready.{Ready}
 use Rattle.breaking.proofs.Rows.{undefined-by, redefined-by, ambiguous-by, contradicted-by}
 use Rattle.breaking.proofs.Stated.{miscounted-by}
 
-module _ (h numbers tags : List ℕ) (n : ℕ) (heads next times waypoints : List ℕ) (points : ℕ)
-    (ready : Ready h numbers tags n heads next times waypoints points) where
+module _ (h numbers tags : List ℕ) (n : ℕ) (heads next times waypoints : List ℕ) (points : ℕ) (single : Bool)
+    (ready : Ready h numbers tags n heads next times waypoints points single) where
   pub counts-small : (i : ℕ) → getD waypoints i 0 ≤ 64000
   counts-small i = elim (decLt i 11) [
     | yes l ↦ omega (arith, counted-few numbers n waypoints (ready .counted) i l, ready .gathered .linked .within)

@@ -1,5 +1,6 @@
 -- Which kinds of fault a column of a card of a header has.
 use Prim.Native.Nat.{ℕ}
+use mathlib.Core.Bool.{false}
 use mathlib.Core.List.{List}
 use Rattle.broken.specs.Faults as kind
 use Rattle.breaking.specs.declared.Broken.{Broken}
@@ -12,3 +13,7 @@ brokenFor h s column = record {
   contradicted = kind.contradicted h s column;
   miscounted = kind.miscounted h s column;
 }
+
+-- none of them
+abbrev pub noneOf : Broken
+noneOf = record { undefined = false; redefined = false; ambiguous = false; contradicted = false; miscounted = false }

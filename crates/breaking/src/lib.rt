@@ -16,7 +16,7 @@ ghost use Rattle.tying.specs.Columns.{statesOwn};
 ghost use Rattle.tally.specs.Chains.{Linked};
 ghost use Rattle.gathering.specs.Gathered.{Gathered};
 ghost use Rattle.breaking.specs.Asked.{linkTo, timesOf, onlyApart, contradictedBy, vesselCount, miscountedBy};
-ghost use Rattle.breaking.specs.Kinds.{brokenFor};
+ghost use Rattle.breaking.specs.Kinds.{brokenFor, noneOf};
 ghost use Rattle.breaking.specs.Ready.{Ready};
 
 // H00@8, H00@9 and H0100 among the layouts.
@@ -179,7 +179,20 @@ fn miscounts(
     false
 }
 
-// Which kinds of fault a column of a card has.
+// No fault of any kind.
+fn unbroken() -> Broken
+    ensures { λ r. ⌜ r ≡ noneOf ⌝ }
+{
+    Broken {
+        undefined: false,
+        redefined: false,
+        ambiguous: false,
+        contradicted: false,
+        miscounted: false,
+    }
+}
+
+// Which kinds of fault a column of a card has. Where no key is defined twice, a column that only defines has none.
 pub fn judge_column(
     header: &[u8],
     numbers: &[u64; ROOM],
@@ -190,15 +203,19 @@ pub fn judge_column(
     n: usize,
     waypoints: &[usize; VESSELS],
     points: usize,
+    single: bool,
     card: &[u8],
     layout: usize,
     column: usize,
 ) -> Broken
     requires { ⌜ layout ≡ layoutOf (now card) ⌝ }
     requires { ⌜ printable (now card) ≡ true ⌝ }
-    requires { ⌜ Ready (now header) (now numbers) (now tags) n (now heads) (now next) (now times) (now waypoints) points ⌝ }
+    requires { ⌜ Ready (now header) (now numbers) (now tags) n (now heads) (now next) (now times) (now waypoints) points single ⌝ }
     ensures { λ r. ⌜ r ≡ brokenFor (now (header .entry)) (now (card .entry)) column ⌝ }
 {
+    if single & tying::only_defines(layout, column) {
+        return unbroken();
+    }
     let reference = keys::referred_by(card, layout, column);
     let definition = keys::defined_by(card, layout, column);
     let vessel = gathering::tag_of(card, layout);

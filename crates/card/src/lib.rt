@@ -4,10 +4,11 @@ use layout::Kind;
 ghost use mathlib.Core.Path.{_≡_};
 ghost use Prim.Native.Nat.{_≤_, _-_, _+_};
 ghost use lib.ListN.{length, take};
-ghost use lib.Dec.{ltb};
+ghost use lib.Dec.{T, ltb};
 ghost use Rattle.lists.specs.Count.{firstFrom};
 ghost use Rattle.layout.specs.Layouts.{labelOf, fieldsOf};
 ghost use Rattle.layout.specs.Packed.{unpack};
+ghost use Rattle.layout.proofs.Columns.{width, wideAs};
 ghost use Rattle.codes.specs.Codes.{codeOf};
 ghost use Rattle.card.specs.Judging.{isCoordinate, isGrid, isUnknown, fieldOffence, filledAt, gapOffence, columnOffence, nextVerdict, labelStands, offenceAt, verdictFrom, verdictOf};
 
@@ -66,7 +67,8 @@ fn is_unknown(form: Form) -> bool
 
 // The number of a field's offence on a card, 0 for none; none of a coordinate whose form is not known.
 fn field_offence(card: &[u8], layout: usize, row: u64, form: Form) -> usize
-    requires { ⌜ (length (now card) ≡ 80) × (1 ≤ unpack row .first) × (unpack row .first ≤ unpack row .last) × (unpack row .last ≤ 80) ⌝ }
+    requires { ⌜ (length (now card) ≡ 80) × (1 ≤ unpack row .first) × (unpack row .first ≤ unpack row .last) × (unpack row .last ≤ 80)
+        × T (wideAs (unpack row .kind) (width (unpack row))) ⌝ }
     ensures { λ r. ⌜ r ≡ fieldOffence layout form (now (card .entry)) (unpack row) ⌝ }
 {
     if is_unknown(form) & is_coordinate(fields::kind_of(row)) {
@@ -123,7 +125,8 @@ fn label_stands(card: &[u8], layout: usize) -> bool
 
 // The columns from one up to a field, and then the field.
 fn judge_next(card: &[u8], layout: usize, row: u64, form: Form, from: usize) -> Verdict
-    requires { ⌜ (length (now card) ≡ 80) × (1 ≤ from) × (1 ≤ unpack row .first) × (unpack row .first ≤ unpack row .last) × (unpack row .last ≤ 80) ⌝ }
+    requires { ⌜ (length (now card) ≡ 80) × (1 ≤ from) × (1 ≤ unpack row .first) × (unpack row .first ≤ unpack row .last) × (unpack row .last ≤ 80)
+        × T (wideAs (unpack row .kind) (width (unpack row))) ⌝ }
     ensures { λ r. ⌜ r ≡ nextVerdict layout form (now (card .entry)) (unpack row) from ⌝ }
 {
     let first = fields::first_of(row);

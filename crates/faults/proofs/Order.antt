@@ -3,7 +3,7 @@ use Prim.Native.Nat.{ℕ, zero, suc, _+_, _*_, _/_, _%_, _≤_, _<_}
 use native.Mathlib.Numerals.{add-one}
 use native.Mathlib.Omega.{arith}
 use mathlib.Core.Path.{_≡_, refl, sym, ap, _∙_}
-use mathlib.Core.Bool.{Bool, true, false, false≢true, cond, _&&_, _||_}
+use mathlib.Core.Bool.{Bool, true, false, false≢true, cond, _&&_}
 use mathlib.Core.List.{List, [], _∷_, _++_, map, flatMap, map-append, map-map, append-assoc}
 use mathlib.Core.List.{List·Memᴰ, List·Memᴰ·head, List·Memᴰ·tail}
 use lib.Dec.{eqb}
@@ -12,12 +12,14 @@ use Rattle.lists.specs.Parts.{keep, kept, upTo}
 use Rattle.lists.proofs.Keeping.{kept-same, out-of-kept, out-of-upTo}
 use Rattle.lists.proofs.Entries.{entries-more}
 use Rattle.forms.specs.Cards.{cardAt, cardsIn, layoutOf}
-use Rattle.keys.specs.Roles.{Role, refers, defines}
+use Rattle.keys.specs.Roles.{refers, defines}
 use Rattle.keys.specs.Keys.{isNone, holdsKey}
-use Rattle.tying.specs.Columns.{canTie, tieColumns, statesOwn, statesCount}
+use Rattle.tying.specs.Columns.{canTie, tieColumns}
+use Rattle.tying.proofs.Defining.{Defining}
 use Rattle.tying.proofs.Tied.{Idle, idle, at-most-five}
 use Rattle.gathering.proofs.Slots.{kept-within, none-at-zero}
-use Rattle.broken.specs.Faults.{undefined, redefined, ambiguous, statesVessel, contradicted, miscounted, brokenOn, broken, entryOf, faults, entries}
+use Rattle.broken.specs.Faults.{redefined, brokenOn, broken, entryOf, faults, entries}
+use Rattle.breaking.proofs.Defining.{not-undefined, not-ambiguous, not-contradicted, not-miscounted}
 use Rattle.tie_laws.proofs.Sites.{isSite, at-site}
 use Rattle.tie_laws.proofs.Complete.{listOf}
 use Rattle.tie_laws.proofs.CardByCard.{sitesOf, kept-runs, brokenSite, siteEntry, entriesOn, card-by-card}
@@ -82,27 +84,22 @@ module _ (h s : List ℕ) (column : ℕ) (e : canTie (layoutOf s) column ≡ fal
   idles : Idle s column
   idles = idle s column e
 
-  no-key : (r : Role) → holdsKey r s column ≡ false
-  unfolding holdsKey isNone
-  no-key r = rw (idles .key r)
+  not-redefined : redefined h s column ≡ false
+  unfolding redefined holdsKey isNone
+  not-redefined = rw (idles .key defines)
 
-  not-contradicted : contradicted h s column ≡ false
-  unfolding contradicted statesVessel statesOwn
-  not-contradicted = rw (idles .own, no-key refers)
-
-  not-miscounted : miscounted h s column ≡ false
-  unfolding miscounted statesCount
-  not-miscounted = go (eqb (layoutOf s) 8 && eqb column 79) (eqb (layoutOf s) 12) (eqb column 16) _ _ (idles .count)
-    where
-      go : (t u v a b : Bool) → (t || (u && v)) ≡ false → cond t a (u && v && b) ≡ false
-      go true u v a b q = absurd (false≢true (sym q))
-      go false true true a b q = absurd (false≢true (sym q))
-      go false true false a b q = refl
-      go false false v a b q = refl
+  refers-none : Defining s column
+  refers-none = record { key = idles .key refers; count = idles .count; own = idles .own }
 
   none-broken : (kind : ℕ) → brokenOn h s column kind ≡ false
-  unfolding brokenOn undefined redefined ambiguous
-  none-broken kind = rw (no-key refers, no-key defines, not-contradicted, not-miscounted)
+  unfolding brokenOn
+  none-broken kind = rw (
+    not-undefined h s column refers-none,
+    not-redefined,
+    not-ambiguous h s column refers-none,
+    not-contradicted h s column refers-none,
+    not-miscounted h s column refers-none,
+  )
       (go (eqb kind 1) (eqb kind 2) (eqb kind 3) (eqb kind 4) (eqb kind 5))
     where
       go : (t u v w x : Bool) → cond t false (cond u false (cond v false (cond w false (x && false)))) ≡ false

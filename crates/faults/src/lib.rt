@@ -80,11 +80,12 @@ fn list_card(
     n: usize,
     waypoints: &[usize; VESSELS],
     points: usize,
+    single: bool,
     layouts: &[usize; CARDS],
     place: usize,
 ) -> usize
     requires { ⌜ Noted (now header) (cardsIn (now header)) (now layouts) ⌝ }
-    requires { ⌜ Ready (now header) (now numbers) (now tags) n (now heads) (now next) (now times) (now waypoints) points ⌝ }
+    requires { ⌜ Ready (now header) (now numbers) (now tags) n (now heads) (now next) (now times) (now waypoints) points single ⌝ }
     requires { ⌜ place < cardsIn (now header) ⌝ }
     requires { ⌜ found ≤ 25 * place ⌝ }
     ensures list { λ _. ⌜ now (list .exit)
@@ -112,6 +113,7 @@ fn list_card(
             n,
             waypoints,
             points,
+            single,
             card,
             layout,
             column,
@@ -134,10 +136,11 @@ fn list_cards(
     n: usize,
     waypoints: &[usize; VESSELS],
     points: usize,
+    single: bool,
     layouts: &[usize; CARDS],
 ) -> usize
     requires { ⌜ Noted (now header) (cardsIn (now header)) (now layouts) ⌝ }
-    requires { ⌜ Ready (now header) (now numbers) (now tags) n (now heads) (now next) (now times) (now waypoints) points ⌝ }
+    requires { ⌜ Ready (now header) (now numbers) (now tags) n (now heads) (now next) (now times) (now waypoints) points single ⌝ }
     ensures list { λ _. ⌜ now (list .exit) ≡ laid 3 (now (list .entry)) (entries (faults (now (header .entry)))) ⌝ }
     ensures number { λ r. ⌜ r ≡ length (faults (now (header .entry))) ⌝ }
 {
@@ -157,6 +160,7 @@ fn list_cards(
             n,
             waypoints,
             points,
+            single,
             layouts,
             place,
         );
@@ -188,6 +192,7 @@ pub fn list_faults(header: &[u8], list: &mut [u32]) -> usize
         &mut next,
         &mut times,
     );
+    let single = tally::once_each(&times, n);
     gathering::count_waypoints(&numbers, n, &mut waypoints);
     let points = noting::points_in(header, &layouts);
     list_cards(
@@ -201,6 +206,7 @@ pub fn list_faults(header: &[u8], list: &mut [u32]) -> usize
         n,
         &waypoints,
         points,
+        single,
         &layouts,
     )
 }

@@ -6,20 +6,16 @@ use mathlib.Core.Path.{_≡_, refl, sym, ap, _∙_}
 use mathlib.Core.List.{List, [], _∷_}
 use mathlib.Core.Bool.{Bool, true, false, cond}
 use lib.Dec.{eqb, ltb}
-use lib.IntN.{pos, negsuc}
+use lib.IntN.{ℤ, pos, negsuc}
 use lib.ListN.{length, getD, take, drop, drop-of-length-le, length-drop}
 use lib.Seq.{take-nil, take-all}
 use borrow.Author.Tests.{ne-eqb, eqb-true, lt-ltb, le-ltb}
 use Rattle.digits.proofs.Parts.{rest-part}
-use Rattle.digits.specs.declared.Run.{Run}
-use Rattle.digits.specs.Figures.{limit, runOf}
-use Rattle.signs.specs.Signs.{signedOf}
 use Rattle.text.specs.Texts.{textOf}
-use Rattle.number.specs.declared.Figures.{Figures}
-use Rattle.number.specs.declared.Figures.the-variants.{Units, Not}
-use Rattle.number.specs.declared.Number.the-variants.{Absent as NoNumber, Held as Numeral, OutOfRange as LargeNumber}
-use Rattle.number.specs.Reading.{countedOf, figuresOf, heldOf, numberOf}
-use Rattle.number.proofs.Parsing.{figures-whole, figures-no-point-in-whole}
+use Rattle.number.specs.declared.Number.{Number}
+use Rattle.number.specs.declared.Number.the-variants.{Absent as NoNumber, Held as Numeral, Malformed as OddNumber, OutOfRange as LargeNumber}
+use Rattle.number.specs.Reading.{numberOf}
+use Rattle.shapes.specs.Shapes.{sized, sizeOf}
 use Rattle.spelling.specs.declared.Value.the-variants.{Absent, Whole, Decimal, Angle, Date, Text}
 use Rattle.spelling.specs.declared.Reading.{Reading}
 use Rattle.spelling.specs.declared.Reading.the-variants.{Held, Malformed, OutOfRange}
@@ -69,52 +65,29 @@ pub vessel-none : (k : ℕ) (s : List ℕ) (b : Bool) → b ≡ hasVessel k → 
 unfolding vesselBy
 vessel-none k s b e q = rw (← e, q)
 
--- digits that fill some columns
-not-a-number : markOf (heldOf false Not) ≡ 0
-unfolding markOf heldOf marked wholeKey wholeReading
-not-a-number = refl
+-- a size tells the number
+module _ (size : ℕ) where
+  pub no-mark : (n : Number) → size ≡ sizeOf n → size < 4 → 0 ≡ markOf n
+  unfolding markOf marked wholeKey wholeReading
+  no-mark NoNumber e h = refl
+  no-mark OddNumber e h = refl
+  no-mark LargeNumber e h = refl
+  no-mark (Numeral d) e h = go (d .units) e
+    where
+      go : (z : ℤ) → size ≡ sized z → 0 ≡ marked (wholeKey (Held (Whole z)))
+      go (pos m) q = absurd (omega arith)
+      go (negsuc m) q = refl
 
-module _ (t : List ℕ) (r : Run) (e : r ≡ runOf 0 t) (short : r .count ≤ length t) where
-  pub other-bytes : (r .count ≡ length t → ⊥) → 0 ≡ markOf (heldOf false (figuresOf false t))
-  other-bytes h =
-      let q = figures-no-point-in-whole t r e (omega arith) false refl in
-      sym (ap (λ f. markOf (heldOf false f)) (sym q) ∙ not-a-number)
-
-  pub no-digits : r .count ≡ length t → r .count ≡ 0 → 0 ≡ markOf (heldOf false (figuresOf false t))
-  no-digits h z =
-      let q : Not ≡ figuresOf false t = ap (λ c. countedOf c (r .number) 0) (sym z) ∙ figures-whole t r e false h in
-      sym (ap (λ f. markOf (heldOf false f)) (sym q) ∙ not-a-number)
-
-  units : r .count ≡ length t → (r .count ≡ 0 → ⊥) → Units (r .number) 0 ≡ figuresOf false t
-  units h z =
-      sym (ap (λ b. cond b Not (Units (r .number) 0)) (ne-eqb (r .count) 0 z)) ∙ figures-whole t r e false h
-
-  pub too-large : r .count ≡ length t → (r .count ≡ 0 → ⊥) → limit ≤ r .number
-      → 0 ≡ markOf (heldOf false (figuresOf false t))
-  unfolding markOf heldOf marked wholeKey wholeReading
-  too-large h z l = rw (← units h z, le-ltb (r .number) limit l)
-
-  pub a-whole : r .count ≡ length t → (r .count ≡ 0 → ⊥) → r .number < limit
-      → r .number + 1 ≡ markOf (heldOf false (figuresOf false t))
-  unfolding markOf heldOf marked wholeKey wholeReading signedOf
-  a-whole h z l = rw (← units h z, lt-ltb (r .number) limit l) (add-one (r .number))
-
--- behind a minus there is no key but 0
-pub behind-minus : (f : Figures) → cond (eqb (markOf (heldOf false f)) 1) 1 0 ≡ markOf (heldOf true f)
-unfolding markOf heldOf marked wholeKey wholeReading signedOf
-behind-minus Not = refl
-behind-minus (Units n p) = go (ltb n limit) n
-  where
-    go : (b : Bool) (n : ℕ)
-        → cond (eqb (markOf (cond b (Numeral (record { units = signedOf false n; places = p })) LargeNumber)) 1) 1 0
-        ≡ markOf (cond b (Numeral (record { units = signedOf true n; places = p })) LargeNumber)
-    go true zero = refl
-    go true (suc n) = rw (ne-eqb (suc (suc n)) 1 (λ q. omega arith))
-    go false n = refl
-
-pub no-number-there : markOf NoNumber ≡ 0
-unfolding markOf marked wholeKey wholeReading
-no-number-there = refl
+  pub a-mark : (n : Number) → size ≡ sizeOf n → 4 ≤ size → size - 4 + 1 ≡ markOf n
+  unfolding markOf marked wholeKey wholeReading
+  a-mark NoNumber e h = absurd (omega arith)
+  a-mark OddNumber e h = absurd (omega arith)
+  a-mark LargeNumber e h = absurd (omega arith)
+  a-mark (Numeral d) e h = go (d .units) e
+    where
+      go : (z : ℤ) → size ≡ sized z → size - 4 + 1 ≡ marked (wholeKey (Held (Whole z)))
+      go (pos m) q = omega arith
+      go (negsuc m) q = absurd (omega arith)
 
 pub whole-marked : (s : List ℕ) (first last : ℕ) (t : List ℕ) (r : ℕ) → t ≡ between first last s → r ≡ markOf (numberOf false t)
     → r ≡ marked (wholeIn first last s)

@@ -1,9 +1,9 @@
 // The keys on one card: what its columns define and what they refer to, each key as one number.
 ghost use mathlib.Core.Path.{_≡_};
-ghost use mathlib.Core.Bool.{true, false, cond};
+ghost use mathlib.Core.Bool.{true};
 ghost use Prim.Native.Nat.{_-_};
-ghost use lib.Dec.{eqb};
-ghost use Rattle.number.specs.Reading.{figuresOf, heldOf, numberOf};
+ghost use Rattle.number.specs.declared.Number.{Number};
+ghost use Rattle.shapes.specs.Shapes.{sizeOf};
 ghost use Rattle.forms.specs.Cards.{byteIn};
 ghost use Rattle.packing.specs.Packing.{packed, wholeOffered};
 ghost use Rattle.keys.specs.Roles.{defines, refers, lineFor, hasVessel};
@@ -40,10 +40,6 @@ const H22X0: usize = 22;
 const H23X0: usize = 24;
 
 const ZERO: u8 = 48;
-
-const PLUS: u8 = 43;
-
-const MINUS: u8 = 45;
 
 // Stands for a code that has no vessel digit.
 const NO_VESSEL: usize = 10;
@@ -182,58 +178,21 @@ fn columns(card: &[u8], first: usize, last: usize) -> &[u8]
     &card[from..last]
 }
 
-// Of numbers counted from 1 the one that a minus may stand before.
-fn nought(mark: u64) -> u64
-    ensures { λ r. ⌜ r ≡ cond (eqb mark 1) 1 0 ⌝ }
+// A number counted from 1, by its size; 0 where there is none. Below zero there is no key.
+fn mark_by(size: u64) -> u64
+    ensures { λ r. ⌜ ((n : Number) → size ≡ sizeOf n → r ≡ markOf n) ⌝ }
 {
-    if mark == 1 {
-        return 1;
-    }
-    0
-}
-
-// The number that the digits in t make, counted from 1; 0 where there are none, or other bytes.
-fn plain(t: &[u8]) -> u64
-    ensures { λ r. ⌜ r ≡ markOf (heldOf false (figuresOf false (now (t .entry)))) ⌝ }
-{
-    let run = digits::read_run(t, 0);
-    let count = run.count;
-    let number = run.number;
-    if count != t.len() {
+    if size < shapes::ZERO {
         return 0;
     }
-    if count == 0 {
-        return 0;
-    }
-    if digits::LIMIT <= number {
-        return 0;
-    }
-    number + 1
-}
-
-// The whole number that stands right adjusted in s, in the same way. Below zero there is no key.
-fn signed(s: &[u8]) -> u64
-    ensures { λ r. ⌜ r ≡ markOf (numberOf false (now (s .entry))) ⌝ }
-{
-    let at = digits::padding(s);
-    if at == s.len() {
-        return 0;
-    }
-    let b = s[at];
-    if b == MINUS {
-        return nought(plain(&s[at + 1..]));
-    }
-    if b == PLUS {
-        return plain(&s[at + 1..]);
-    }
-    plain(&s[at..])
+    size - shapes::ZERO + 1
 }
 
 // The whole number in some columns, counted from 1; 0 where there is none.
 pub fn whole_in(card: &[u8], first: usize, last: usize) -> u64
     ensures { λ r. ⌜ r ≡ marked (wholeIn first last (now (card .entry))) ⌝ }
 {
-    signed(columns(card, first, last))
+    mark_by(shapes::whole_size(columns(card, first, last)))
 }
 
 // The digit in a column.

@@ -1,11 +1,11 @@
 -- The offence of a field, found without its value.
 use Prim.Native.Nat.{ℕ, suc, _-_, _≤_, min}
 use native.Mathlib.Omega.{arith}
-use mathlib.Core.Path.{_≡_, refl, sym, ap, _∙_}
+use mathlib.Core.Path.{_≡_, refl, sym, ap, subst, _∙_}
 use mathlib.Core.List.{List, [], _∷_}
 use mathlib.Core.Bool.{Bool, true, false, cond, _&&_, _||_, not}
 use lib.ListN.{length, getD, take, drop, length-take, length-drop}
-use lib.Dec.{eqb}
+use lib.Dec.{T, eqb}
 use lib.IntN.{ℤ}
 use borrow.Author.Tests.{eq-eqb, ne-eqb}
 use Rattle.number.specs.declared.Decimal.{Decimal}
@@ -31,6 +31,7 @@ use Rattle.layout.specs.declared.Kind.{Kind}
 use Rattle.layout.specs.declared.Kind.the-variants as kind
 use Rattle.layout.specs.declared.Range.{Range}
 use Rattle.layout.specs.declared.Field.{Field}
+use Rattle.layout.proofs.Columns.{width, wideAs}
 use Rattle.ranges.specs.Ranges.{inRange}
 use Rattle.judging.specs.declared.Judged.the-variants.{Is, Not}
 use Rattle.judging.specs.Fields.{columnsOf, isBlank, neededOn, valueOf, heldOf, spellingOf, judgedOf, numberOf}
@@ -77,16 +78,6 @@ module _ (s : List ℕ) (lead : Bool) where
   pub text-odd : 1 ≤ length s → getD s 0 0 ≡ 32 → isBlank s ≡ false → lead ≡ false → readOffence (textReading lead s) ≡ 9
   unfolding textReading isBlank
   text-odd l g h q = rw (h, q, begins s l g)
-
--- a whole number in and out of its range
-module _ (f : Field) (n : Number) (d : Decimal) (y : ℤ) (is : n ≡ number.Held d) (same : y ≡ d .units) (range : Range) (has : range ≡ f .range) where
-  pub whole-within : inRange range y ≡ true → offenceIn f (wholeReading n) ≡ 0
-  unfolding offenceIn heldOf valueOf wholeReading
-  whole-within h = rw (is, ← same, ← has, h)
-
-  pub whole-outside : inRange range y ≡ false → offenceIn f (wholeReading n) ≡ 10
-  unfolding offenceIn heldOf valueOf wholeReading
-  whole-outside h = rw (is, ← same, ← has, h)
 
 -- a coordinate in one form and the other
 module _ (a : Axis) (s : List ℕ) (grid : Bool) where
@@ -209,3 +200,12 @@ module _ (k : ℕ) (s : List ℕ) (f : Field) (grid : Bool) (first last n : ℕ)
 pub columns-some : (s : List ℕ) (first last : ℕ) → length s ≡ 80 → 1 ≤ first → first ≤ last → last ≤ 80
     → 1 ≤ length (take (last - (first - 1)) (drop (first - 1) s))
 columns-some s first last w a b c = omega (arith, length-take (last - (first - 1)) (drop (first - 1) s), length-drop (first - 1) s)
+
+-- and as many as its width says
+pub columns-wide : (s : List ℕ) (f : Field) (first last : ℕ) → first ≡ f .first → last ≡ f .last → length s ≡ 80 → 1 ≤ f .first
+    → f .first ≤ f .last → f .last ≤ 80 → T (wideAs (f .kind) (width f))
+    → T (wideAs (f .kind) (length (take (last - (first - 1)) (drop (first - 1) s))))
+columns-wide s f first last d e w a b c t = subst (λ (n : ℕ). T (wideAs (f .kind) n)) same t
+  where
+    same : width f ≡ length (take (last - (first - 1)) (drop (first - 1) s))
+    same = omega (arith, length-take (last - (first - 1)) (drop (first - 1) s), length-drop (first - 1) s)

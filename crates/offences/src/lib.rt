@@ -5,10 +5,16 @@ use number::Number;
 use position::Angled;
 use position::Axis;
 ghost use mathlib.Core.Path.{_≡_};
-ghost use Prim.Native.Nat.{_≤_};
+ghost use mathlib.Core.Bool.{cond};
+ghost use Prim.Native.Nat.{_+_, _≤_};
+ghost use lib.Dec.{T};
 ghost use lib.ListN.{length};
 ghost use Rattle.spelling.specs.Reading.{textReading, wholeReading, decimalReading, dateReading, angleReading, readingOf};
+ghost use Rattle.digits.specs.Figures.{limit};
+ghost use Rattle.shapes.specs.Shapes.{sizeOf};
+ghost use Rattle.ranges.specs.Ranges.{inRange};
 ghost use Rattle.layout.specs.Packed.{unpack};
+ghost use Rattle.layout.proofs.Columns.{width, wideAs};
 ghost use Rattle.judging.specs.Fields.{spellingOf, judgedOf, numberOf};
 ghost use Rattle.offences.specs.Offences.{offenceIn, readOffence, coordinateReading};
 
@@ -40,25 +46,37 @@ fn text_offence(s: &[u8], lead: bool) -> usize
     MALFORMED
 }
 
-// The offence of a whole number that is needed, by the range in its field's row.
-fn whole_offence(n: Number, row: u64) -> usize
-    ensures { λ r. ⌜ r ≡ offenceIn (unpack row) (wholeReading n) ⌝ }
+// The offence of a value that is there, by the range in its field's row.
+fn range_offence(row: u64, value: i64) -> usize
+    ensures { λ r. ⌜ r ≡ cond (inRange (unpack row .range) value) 0 10 ⌝ }
 {
-    match n {
-        Number::Absent => MISSING,
-        Number::Malformed => MALFORMED,
-        Number::OutOfRange => OUTSIDE,
-        Number::Held(d) => {
-            let units = d.units;
-            if ranges::in_range(fields::range_of(row), units) {
-                return FINE;
-            }
-            OUTSIDE
-        }
+    if ranges::in_range(fields::range_of(row), value) {
+        return FINE;
     }
+    OUTSIDE
 }
 
-// The offence of a decimal that is needed.
+// The offence of a whole number that is needed, by its size.
+fn whole_offence(size: u64, row: u64) -> usize
+    requires { ⌜ size ≤ limit + 3 ⌝ }
+    ensures { λ r. ⌜ ((n : Number) → size ≡ sizeOf n → r ≡ offenceIn (unpack row) (wholeReading n)) ⌝ }
+{
+    if shapes::ZERO <= size {
+        return range_offence(row, (size - shapes::ZERO) as i64);
+    }
+    if size == shapes::BLANK {
+        return MISSING;
+    }
+    if size == shapes::ODD {
+        return MALFORMED;
+    }
+    if size == shapes::LARGE {
+        return OUTSIDE;
+    }
+    range_offence(row, -1)
+}
+
+// The offence of a number of form 1 that is needed.
 fn decimal_offence(n: Number) -> usize
     ensures { λ r. ⌜ r ≡ readOffence (decimalReading n) ⌝ }
 {
@@ -106,14 +124,14 @@ fn coordinate_offence(s: &[u8], axis: Axis, grid: bool) -> usize
 
 // The offence of a field that is needed, by its columns and its row.
 fn offence_in(s: &[u8], row: u64, grid: bool) -> usize
-    requires { ⌜ 1 ≤ length (now s) ⌝ }
+    requires { ⌜ (1 ≤ length (now s)) × T (wideAs (unpack row .kind) (length (now s))) ⌝ }
     ensures { λ r. ⌜ r ≡ offenceIn (unpack row) (readingOf (spellingOf (unpack row .kind) grid) (now (s .entry))) ⌝ }
 {
     match fields::kind_of(row) {
         Kind::Text => text_offence(s, false),
         Kind::Comment => text_offence(s, true),
-        Kind::Whole => whole_offence(number::read_number(s, false), row),
-        Kind::Decimal => decimal_offence(number::read_number(s, true)),
+        Kind::Whole => whole_offence(shapes::whole_size(s), row),
+        Kind::Decimal => shapes::decimal_shape(s),
         Kind::Date => date_offence(date::read_date(s)),
         Kind::Latitude => coordinate_offence(s, Axis::Y, grid),
         Kind::Longitude => coordinate_offence(s, Axis::X, grid),
@@ -122,7 +140,8 @@ fn offence_in(s: &[u8], row: u64, grid: bool) -> usize
 
 // The number of the offence, on a card, of the field that a row holds, 0 for none.
 pub fn offence(card: &[u8], layout: usize, row: u64, grid: bool) -> usize
-    requires { ⌜ (length (now card) ≡ 80) × (1 ≤ unpack row .first) × (unpack row .first ≤ unpack row .last) × (unpack row .last ≤ 80) ⌝ }
+    requires { ⌜ (length (now card) ≡ 80) × (1 ≤ unpack row .first) × (unpack row .first ≤ unpack row .last) × (unpack row .last ≤ 80)
+        × T (wideAs (unpack row .kind) (width (unpack row))) ⌝ }
     ensures { λ r. ⌜ r ≡ numberOf (judgedOf layout (now (card .entry)) (unpack row) grid) ⌝ }
 {
     let first = fields::first_of(row);

@@ -35,6 +35,13 @@ fn give(numbers: &mut [i64], reply: Reply) -> i64
     said
 }
 
+// What stands in a field, as numbers: both readers call it, so that all of the reading is compiled into it.
+fn reading(card: &[u8], number: usize, form: usize) -> Reply
+    ensures { λ r. ⌜ r ≡ fieldReply (fieldReading (now (card .entry)) number form) ⌝ }
+{
+    answers::of_field(field::read_field(card, number, form))
+}
+
 // What stands in the field with a number, its coordinates in the form that is given.
 #[no_mangle]
 pub extern "C" fn p294_read_field(
@@ -47,8 +54,7 @@ pub extern "C" fn p294_read_field(
     ensures numbers { λ _. ⌜ now (numbers .exit)
         ≡ given (now (numbers .entry)) (fieldReply (fieldReading (now (card .entry)) number form)) ⌝ }
 {
-    let reply = answers::of_field(field::read_field(card, number, form));
-    give(numbers, reply)
+    give(numbers, reading(card, number, form))
 }
 
 // The columns of the text in the field with a number.
@@ -63,8 +69,7 @@ pub extern "C" fn p294_read_text(
     ensures numbers { λ _. ⌜ now (numbers .exit)
         ≡ given (now (numbers .entry)) (textReply (fieldReading (now (card .entry)) number form)) ⌝ }
 {
-    let reply = answers::of_text(field::read_field(card, number, form));
-    give(numbers, reply)
+    give(numbers, answers::of_text(reading(card, number, form)))
 }
 
 // A new card of a code.

@@ -1,7 +1,6 @@
 // A card's field found by its number: length, bytes and code of the card come first.
 use codes::Code;
 use layout::Field;
-use layout::Found;
 ghost use mathlib.Core.Path.{_≡_};
 ghost use lib.ListN.{length};
 ghost use Rattle.layout.specs.Layouts.{fieldOf};
@@ -70,20 +69,21 @@ pub fn first_bad(s: &[u8]) -> usize
     i
 }
 
-// The field with a number in a layout, under a form.
+// The field with a number in a layout, under a form: by its row, since a field that is found is copied once more.
 fn under_form(layout: usize, number: usize, form: usize) -> Sought
     ensures { λ r. ⌜ r ≡ underForm layout form (fieldOf layout number) ⌝ }
 {
-    let found = fields::field_of(layout, number);
-    match found {
-        Found::Nothing => refused(13, 0, 0),
-        Found::Is(f) => {
-            if 1 < form {
-                return refused(10, 0, 0);
-            }
-            Sought::Is(layout, f)
-        }
+    if number == 0 {
+        return refused(13, 0, 0);
     }
+    let row = layout::row_of(layout, number);
+    if row == 0 {
+        return refused(13, 0, 0);
+    }
+    if 1 < form {
+        return refused(10, 0, 0);
+    }
+    Sought::Is(layout, fields::field_in(row))
 }
 
 // The field with a number on a card, or the first refusal on the way to it.

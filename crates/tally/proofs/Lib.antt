@@ -1,3 +1,4 @@
 pub mod Adding
+pub mod Once
 pub mod Only
 pub mod Walking

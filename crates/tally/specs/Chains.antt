@@ -1,10 +1,10 @@
 -- Entries of a key and a small tag each, in the order in which they came, and the chains that join those of one bucket.
 -- Assumes nothing.
 use mathlib.Core.Path.{_≡_}
-use mathlib.Core.Bool.{Bool, cond}
+use mathlib.Core.Bool.{Bool, true, cond, _&&_}
 use mathlib.Core.List.{List}
 use Prim.Native.Nat.{ℕ, zero, suc, _+_, _-_, _%_, _≤_, _<_}
-use lib.Dec.{eqb}
+use lib.Dec.{eqb, ltb}
 use lib.ListN.{length, getD}
 use Rattle.lists.specs.Count.{count}
 
@@ -28,6 +28,11 @@ noTag = 10
 -- the tag of the only one of n entries that has a key, none where there is not exactly one
 unfoldable pub onlyTag : List ℕ → List ℕ → ℕ → ℕ → ℕ
 onlyTag keys tags key n = cond (eqb (count (holds keys key) n) 1) (getD tags (last (holds keys key) n - 1) 0) noTag
+
+-- by the times of n entries, each was the first with its key
+unfoldable pub onceTo : List ℕ → ℕ → Bool
+onceTo times zero = true
+onceTo times (suc n) = onceTo times n && ltb (getD times n 0) 2
 
 -- the bucket of a key
 abbrev pub buckets : ℕ

@@ -3,10 +3,10 @@
 // starts with arrays of zeros and n = 0, adds at n and counts n up, and keeps `Linked`; from then on it asks about the first n.
 ghost use mathlib.Core.Path.{_≡_};
 ghost use mathlib.Core.List.{List};
-ghost use Prim.Native.Nat.{ℕ, _+_, _<_};
+ghost use Prim.Native.Nat.{ℕ, _+_, _≤_, _<_};
 ghost use lib.ListN.{getD, set};
 ghost use Rattle.lists.specs.Count.{count};
-ghost use Rattle.tally.specs.Chains.{room, buckets, bucket, holds, last, onlyTag, Linked};
+ghost use Rattle.tally.specs.Chains.{room, buckets, bucket, holds, last, onlyTag, onceTo, Linked};
 
 // As many entries as 800 cards can have, one for each column that can carry a tie, of which a card has at most five.
 pub const ROOM: usize = 4000;
@@ -131,6 +131,20 @@ pub fn tag_by(
         return NO_TAG;
     }
     tags[link - 1]
+}
+
+// Whether each of n entries was the first with its key. No early exit, so that it is done several entries at a time.
+pub fn once_each(times: &[u16; ROOM], n: usize) -> bool
+    requires { ⌜ n ≤ room ⌝ }
+    ensures { λ r. ⌜ r ≡ onceTo (now (times .entry)) n ⌝ }
+{
+    let mut once = true;
+    let mut i: usize = 0;
+    while i < n {
+        once = once & (times[i] < 2);
+        i += 1;
+    }
+    once
 }
 
 // One entry more, at n.

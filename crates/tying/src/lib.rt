@@ -1,8 +1,8 @@
-// The columns that can carry a broken tie, so that no other is looked at.
+// The columns that can carry a broken tie, so that no other is looked at, and those that only define.
 ghost use mathlib.Core.Path.{_≡_};
 ghost use mathlib.Core.List.{[], _∷_};
 ghost use lib.ListN.{getD};
-ghost use Rattle.tying.specs.Columns.{tieColumns};
+ghost use Rattle.tying.specs.Columns.{tieColumns, onlyDefines};
 
 // The codes by the numbers of their layouts; X stands for the digit of a vessel or datum.
 const H00X8: usize = 8;
@@ -61,5 +61,23 @@ pub fn tie_column(layout: usize, slot: usize) -> usize
         H22X0 => pick(slot, 7, 11, 16, 36, 41),
         H23X0 => pick(slot, 7, 0, 0, 0, 0),
         _ => 0,
+    }
+}
+
+// Whether a column does no more than define: it refers to nothing, and states neither a count nor the card's own vessel.
+pub fn only_defines(layout: usize, column: usize) -> bool
+    ensures { λ r. ⌜ r ≡ onlyDefines layout column ⌝ }
+{
+    match layout {
+        H00X8 => (column != 30) & (column != 79),
+        H00X9 => column != 7,
+        H0100 => column != 16,
+        H0101 => column != 7,
+        H0120 => (column != 7) & (column != 9),
+        H17X1 => column != 7,
+        H21X1 => column != 7,
+        H22X0 => column != 7,
+        H23X0 => column != 7,
+        _ => true,
     }
 }

@@ -1,10 +1,11 @@
 -- `card::judge_columns` meets its contract.
 use denote.Ref.{now}
 use mathlib.Core.Path.{_≡_, sym, _∙_, refl, subst}
-use Prim.Native.Nat.{_≤_, _-_}
+use Prim.Native.Nat.{_≤_, _-_, _+_}
 use lib.ListN.{length, drop}
 use lib.Dec.{T}
 use Rattle.layout.proofs.Columns.{inOrder}
+use Rattle.layout.proofs.Numbers.{found-wide}
 use Rattle.layout.proofs.Numbering.{row-there, row-inside, row-past, fields-few}
 use Rattle.layout.specs.Layouts.{fieldsOf}
 use Rattle.layout.specs.Packed.{unpack}
@@ -49,7 +50,7 @@ judge-next-requires c κs =
     let i = row-inside k (b .number) _ r z in
     let e = row-there k (b .number) _ r z in
     let l = stands k (b .number) (b .column) (unpack (c .before .row-of .result)) i e (b .inv .3) in
-    (c .before .before .before .before .pre .0, b .inv .1, omega (arith, b .inv .1, l .after), l .forward, l .on-card)
+    (c .before .before .before .before .pre .0, b .inv .1, omega (arith, b .inv .1, l .after), l .forward, l .on-card, found-wide k (b .number + 1) (unpack (c .before .row-of .result)) e)
 
 enum-told : tie.Need-enum-told Inv-loop μ-loop
 enum-told c = search needs

@@ -20,7 +20,7 @@ returns c =
     sym (next-gap _ _ (now (a .card)) (unpack (a .row)) _ _ _ (c .before .before .first-of .ensures) (c .before .first-filled .ensures) (c .if1 .taken))
 
 field-offence-requires : tie.Need-field-offence-requires
-field-offence-requires c κs = let p = c .before .before .before .before .pre in (p .0, p .2, p .3, p .4)
+field-offence-requires c κs = let p = c .before .before .before .before .pre in (p .0, p .2, p .3, p .4, p .5)
 
 returns-2 : tie.Need-returns-2
 returns-2 c =

@@ -23,12 +23,12 @@ use Rattle.faults.proofs.list_card.Statement.{statement}
 use Rattle.faults.proofs.list_card.Tie as tie
 
 abbrev Inv-loop : tie.InvT-loop
-Inv-loop list₀ found header numbers tags heads next times n waypoints points layouts place from card layout m₀ slot₀ list m slot =
+Inv-loop list₀ found header numbers tags heads next times n waypoints points single layouts place from card layout m₀ slot₀ list m slot =
     (slot ≤ 5) × (m ≤ found + 5 * slot) × (list ≡ storedAll list₀ found (flatMap (slotEntries header place) (upTo slot)))
     × (m ≡ found + length (flatMap (slotEntries header place) (upTo slot)))
 
 abbrev μ-loop : tie.MeasureT-loop
-μ-loop list₀ found header numbers tags heads next times n waypoints points layouts place from card layout m₀ slot₀ list m slot = 5 - slot
+μ-loop list₀ found header numbers tags heads next times n waypoints points single layouts place from card layout m₀ slot₀ list m slot = 5 - slot
 
 -- the card lies within the header
 within : (c : tie.After-shared-slice-known Inv-loop μ-loop)

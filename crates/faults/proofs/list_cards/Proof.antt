@@ -18,13 +18,13 @@ use Rattle.faults.proofs.list_cards.Statement.{statement}
 use Rattle.faults.proofs.list_cards.Tie as tie
 
 abbrev Inv-loop : tie.InvT-loop
-Inv-loop list₀ header numbers tags heads next times n waypoints points layouts count found₀ place₀ list found place =
+Inv-loop list₀ header numbers tags heads next times n waypoints points single layouts count found₀ place₀ list found place =
     (place ≤ length header / 80) × (found ≤ 25 * place)
     × (list ≡ storedAll list₀ 0 (flatMap (cardEntries header) (upTo place)))
     × (found ≡ 0 + length (flatMap (cardEntries header) (upTo place)))
 
 abbrev μ-loop : tie.MeasureT-loop
-μ-loop list₀ header numbers tags heads next times n waypoints points layouts count found₀ place₀ list found place = length header / 80 - place
+μ-loop list₀ header numbers tags heads next times n waypoints points single layouts count found₀ place₀ list found place = length header / 80 - place
 
 loop-holds : tie.Need-loop-holds Inv-loop μ-loop
 unfolding upTo flatMap storedAll

@@ -19,12 +19,16 @@ gather-requires c κs =
       (l .note-layouts .ensures, (refl, (refl, (refl, (refl, refl))))),
     )
 
+once-each-requires : tie.Need-once-each-requires
+once-each-requires c κs = c .before .gather .ensures .linked .within
+
 count-waypoints-requires : tie.Need-count-waypoints-requires
 count-waypoints-requires c κs = search needs
 
 points-in-requires : tie.Need-points-in-requires
 points-in-requires c κs =
-    let l = c .before .before .before .before .before .before .before .before .before .before .before in
+    let g = c .before .before .before .before .before .before in
+    let l = g .before .before .before .before .before .before .before in
     let s = l .before .before .before .before in
     (few-cards (now (s .args .header)) (s .pre), l .note-layouts .ensures)
 
@@ -32,11 +36,13 @@ list-cards-requires : tie.Need-list-cards-requires
 list-cards-requires c κs =
     let p = c .before .before .before .before .before .before .before .before in
     let w = p .before .before in
-    let g = w .before .before .before in
+    let o = w .before .before .before in
+    let g = o .before .before in
     let l = g .before .before .before .before .before .before .before in
     let s = l .before .before .before .before in (
       l .note-layouts .ensures,
-      ready (now (s .args .header)) (s .pre) _ _ _ _ _ _ _ _ (g .gather .ensures) (w .count-waypoints .ensures) (p .points-in .ensures),
+      ready (now (s .args .header)) (s .pre) _ _ _ _ _ _ _ _ _ (g .gather .ensures) (w .count-waypoints .ensures)
+          (p .points-in .ensures) (o .once-each .ensures),
     )
 
 same-length : tie.Need-same-length
@@ -51,6 +57,7 @@ list-faults-spec =
     (tie.spec
     note-layouts-requires
     gather-requires
+    once-each-requires
     count-waypoints-requires
     points-in-requires
     list-cards-requires

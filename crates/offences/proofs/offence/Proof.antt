@@ -4,7 +4,7 @@ use mathlib.Core.Path.{refl, sym, ap, _∙_}
 use native.Mathlib.Omega.{arith}
 use Rattle.layout.specs.Packed.{unpack}
 use Rattle.judging.specs.Fields.{neededOn}
-use Rattle.offences.proofs.Offences.{offence-other, offence-missing, offence-none, columns-some}
+use Rattle.offences.proofs.Offences.{offence-other, offence-missing, offence-none, columns-some, columns-wide}
 use borrow.Author.Needs.{needs}
 use Rattle.offences.proofs.offence.Statement.{statement}
 use Rattle.offences.proofs.offence.Tie as tie
@@ -31,7 +31,11 @@ offence-in-requires : tie.Need-offence-in-requires
 offence-in-requires c κs =
     let a = c .before .before .before .before .args in
     let p = c .before .before .before .before .pre in
-    columns-some (now (a .card)) (c .before .before .first-of .result) (c .before .last-of .result) (p .0) (omega (arith, p .1, c .before .before .first-of .ensures)) (omega (arith, p .2, c .before .before .first-of .ensures, c .before .last-of .ensures)) (omega (arith, p .3, c .before .last-of .ensures))
+    let f = c .before .before .first-of .ensures in
+    let l = c .before .last-of .ensures in (
+      columns-some (now (a .card)) (c .before .before .first-of .result) (c .before .last-of .result) (p .0) (omega (arith, p .1, f)) (omega (arith, p .2, f, l)) (omega (arith, p .3, l)),
+      columns-wide (now (a .card)) (unpack (a .row)) _ _ f l (p .0) (p .1) (p .2) (p .3) (p .4),
+    )
 
 returns : tie.Need-returns
 returns c =

@@ -1,6 +1,9 @@
 -- `offences::offence_in` meets its contract.
 use denote.Ref.{now}
-use mathlib.Core.Path.{sym, _∙_}
+use mathlib.Core.Path.{refl, sym, _∙_}
+use mathlib.Core.Bool.{true, false}
+use Rattle.number.specs.Reading.{numberOf}
+use Rattle.offences.proofs.Sizes.{shape-offence, few}
 use Rattle.offences.proofs.Offences.{as-text, as-comment, as-whole, as-decimal, as-date, as-latitude, as-longitude}
 use Rattle.layout.specs.Packed.{unpack}
 use borrow.Author.Needs.{needs}
@@ -25,8 +28,8 @@ text-offence-requires-2 c κs = search needs
 enum-told-3 : tie.Need-enum-told-3
 enum-told-3 c = search needs
 
-read-number-requires : tie.Need-read-number-requires
-read-number-requires c κs = search needs
+whole-size-requires : tie.Need-whole-size-requires
+whole-size-requires c κs = search needs
 
 whole-offence-requires : tie.Need-whole-offence-requires
 whole-offence-requires c κs = search needs
@@ -34,11 +37,10 @@ whole-offence-requires c κs = search needs
 enum-told-4 : tie.Need-enum-told-4
 enum-told-4 c = search needs
 
-read-number-requires-2 : tie.Need-read-number-requires-2
-read-number-requires-2 c κs = search needs
-
-decimal-offence-requires : tie.Need-decimal-offence-requires
-decimal-offence-requires c κs = search needs
+decimal-shape-requires : tie.Need-decimal-shape-requires
+decimal-shape-requires c κs =
+    let a = c .before .before .before .before in
+    few (unpack (a .args .row) .kind) _ (sym (c .before .before .kind-of .ensures) ∙ c .enum-told4 .given .1) (a .pre .1)
 
 enum-told-5 : tie.Need-enum-told-5
 enum-told-5 c = search needs
@@ -68,10 +70,16 @@ returns-2 : tie.Need-returns-2
 returns-2 c = c .text-offence2 .ensures ∙ as-comment (unpack (c .before .before .before .before .before .args .row)) _ (now (c .before .before .before .before .before .args .s)) (sym (c .before .before .before .kind-of .ensures) ∙ c .before .enum-told2 .given .1)
 
 returns-3 : tie.Need-returns-3
-returns-3 c = c .whole-offence .ensures ∙ as-whole (unpack (c .before .before .before .before .before .before .args .row)) _ (now (c .before .before .before .before .before .before .args .s)) (sym (c .before .before .before .before .kind-of .ensures) ∙ c .before .before .enum-told3 .given .1) _ (c .before .read-number .ensures)
+returns-3 c =
+    let a = c .before .before .before .before .before .before .args in
+    c .whole-offence .ensures (numberOf false (now (a .s))) (c .before .whole-size .ensures .0)
+    ∙ as-whole (unpack (a .row)) _ (now (a .s)) (sym (c .before .before .before .before .kind-of .ensures) ∙ c .before .before .enum-told3 .given .1) _ refl
 
 returns-4 : tie.Need-returns-4
-returns-4 c = c .decimal-offence .ensures ∙ as-decimal (unpack (c .before .before .before .before .before .before .args .row)) _ (now (c .before .before .before .before .before .before .args .s)) (sym (c .before .before .before .before .kind-of .ensures) ∙ c .before .before .enum-told4 .given .1) _ (c .before .read-number2 .ensures)
+returns-4 c =
+    let a = c .before .before .before .before .before .args in
+    c .decimal-shape .ensures ∙ shape-offence (numberOf true (now (a .s)))
+    ∙ as-decimal (unpack (a .row)) _ (now (a .s)) (sym (c .before .before .before .kind-of .ensures) ∙ c .before .enum-told4 .given .1) _ refl
 
 returns-5 : tie.Need-returns-5
 returns-5 c = c .date-offence .ensures ∙ as-date (unpack (c .before .before .before .before .before .before .args .row)) _ (now (c .before .before .before .before .before .before .args .s)) (sym (c .before .before .before .before .kind-of .ensures) ∙ c .before .before .enum-told5 .given .1) _ (c .before .read-date .ensures)
@@ -92,11 +100,10 @@ offence-in-spec =
     enum-told-2
     text-offence-requires-2
     enum-told-3
-    read-number-requires
+    whole-size-requires
     whole-offence-requires
     enum-told-4
-    read-number-requires-2
-    decimal-offence-requires
+    decimal-shape-requires
     enum-told-5
     read-date-requires
     date-offence-requires

@@ -1,64 +1,57 @@
--- `offences::whole_offence` meets its contract.
-use mathlib.Core.Path.{sym, ap, _∙_}
-use mir.ValLaws.{toZ-ofZ}
+-- `offences::whole_offence` meets its contract: a size tells the number, or why there is none.
+use mathlib.Core.Path.{_≡_, sym, ap, _∙_}
+use native.Mathlib.Omega.{arith}
+use Prim.Native.Nat.{_-_}
+use mathlib.Core.Bool.{cond}
+use lib.IntN.{ℤ}
+use mir.ValLaws.{toZ-pos}
 use mir.Syntax.{w64}
-use Rattle.spelling.specs.Reading.{wholeReading}
-use Rattle.judging.specs.Fields.{valueOf, heldOf}
-use Rattle.offences.specs.Offences.{offenceIn}
-use Rattle.offences.proofs.Offences.{whole-within, whole-outside}
 use Rattle.layout.specs.Packed.{unpack}
+use Rattle.ranges.specs.Ranges.{inRange}
+use Rattle.offences.proofs.Sizes.{size-number, size-blank, size-odd, size-large, size-below}
 use borrow.Author.Needs.{needs}
 use Rattle.offences.proofs.whole_offence.Statement.{statement}
 use Rattle.offences.proofs.whole_offence.Tie as tie
 
-enum-told : tie.Need-enum-told
-enum-told c = search needs
+cast-range-offence : tie.Need-cast-range-offence
+cast-range-offence c = search needs
 
-enum-told-2 : tie.Need-enum-told-2
-enum-told-2 c = search needs
-
-enum-told-3 : tie.Need-enum-told-3
-enum-told-3 c = search needs
-
-enum-known-n : tie.Need-enum-known-n
-enum-known-n c = search needs
-
-range-of-requires : tie.Need-range-of-requires
-range-of-requires c κs = search needs
-
-in-range-requires : tie.Need-in-range-requires
-in-range-requires c κs = search needs
+range-offence-requires : tie.Need-range-offence-requires
+range-offence-requires c κs = search needs
 
 returns : tie.Need-returns
-returns c = sym (whole-within (unpack (c .before .before .before .before .before .before .before .args .row)) _ (c .before .before .before .before .before .n .given .0 .0) _ (c .before .before .before .before .before .n .given .1) (toZ-ofZ w64 (c .before .before .before .before .before .n .given .0 .0 .units) (record { sfits = c .before .before .before .struct-told .given .0 .1 })) _ (c .before .before .range-of .ensures) (sym (c .before .in-range .ensures) ∙ c .if1 .taken))
+returns c n e =
+    let a = c .before .before .args in
+    c .range-offence .ensures
+    ∙ ap (λ (z : ℤ). cond (inRange (unpack (a .row) .range) z) 0 10) (toZ-pos w64 (a .size - 4) (omega (arith, c .before .before .pre)))
+    ∙ size-number (unpack (a .row)) (a .size) n e (c .before .if1 .taken)
 
 returns-2 : tie.Need-returns-2
-unfolding offenceIn heldOf valueOf wholeReading
-returns-2 c = sym (ap (λ x. offenceIn (unpack (c .before .before .args .row)) (wholeReading x)) (c .enum-told .given .1))
+returns-2 c n e = size-blank (unpack (c .before .before .args .row)) _ n e (c .if2 .taken)
 
 returns-3 : tie.Need-returns-3
-unfolding offenceIn heldOf valueOf wholeReading
-returns-3 c = sym (ap (λ x. offenceIn (unpack (c .before .before .args .row)) (wholeReading x)) (c .enum-told2 .given .1))
+returns-3 c n e = size-odd (unpack (c .before .before .before .args .row)) _ n e (c .if3 .taken)
 
 returns-4 : tie.Need-returns-4
-unfolding offenceIn heldOf valueOf wholeReading
-returns-4 c = sym (ap (λ x. offenceIn (unpack (c .before .before .args .row)) (wholeReading x)) (c .enum-told3 .given .1))
+returns-4 c n e = size-large (unpack (c .before .before .before .before .args .row)) _ n e (c .if4 .taken)
+
+range-offence-requires-2 : tie.Need-range-offence-requires-2
+range-offence-requires-2 c κs = search needs
 
 returns-5 : tie.Need-returns-5
-returns-5 c = sym (whole-outside (unpack (c .before .before .before .before .before .before .before .args .row)) _ (c .before .before .before .before .before .n .given .0 .0) _ (c .before .before .before .before .before .n .given .1) (toZ-ofZ w64 (c .before .before .before .before .before .n .given .0 .0 .units) (record { sfits = c .before .before .before .struct-told .given .0 .1 })) _ (c .before .before .range-of .ensures) (sym (c .before .in-range .ensures) ∙ c .if1 .left))
+returns-5 c n e =
+    let a = c .before .before .before .before .before .args in
+    c .range-offence2 .ensures ∙ size-below (unpack (a .row)) (a .size) n e (omega arith)
 
 pub whole-offence-spec : {M : Type 1} → statement M
 whole-offence-spec =
     tie.close
     (tie.spec
-    enum-told
-    enum-told-2
-    enum-told-3
-    enum-known-n
-    range-of-requires
-    in-range-requires
+    cast-range-offence
+    range-offence-requires
     returns
     returns-2
     returns-3
     returns-4
+    range-offence-requires-2
     returns-5)

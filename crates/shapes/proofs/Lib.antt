@@ -1,0 +1,3 @@
+pub mod Leading
+pub mod Small
+pub mod Telling

@@ -1,0 +1,73 @@
+-- From what stands in the columns to the number that tells it.
+use Prim.Native.Nat.{ℕ, zero, suc, _+_, _≤_, _<_}
+use native.Mathlib.Omega.{arith}
+use native.Mathlib.Decide.{ℕ-discrete, decLt}
+use native.Mathlib.Nat.{add-zero}
+use mathlib.Core.Path.{_≡_, refl, sym, ap, _∙_}
+use mathlib.Core.List.{List}
+use mathlib.Core.Bool.{Bool, true, false, cond, not, _&&_}
+use lib.Dec.{eqb, ltb}
+use lib.IntN.{pos, negsuc, negℤ}
+use lib.ListN.{length, getD, drop, length-drop}
+use borrow.Author.Tests.{eq-eqb, ne-eqb, lt-ltb, le-ltb}
+use Rattle.signs.specs.Signs.{signedOf}
+use Rattle.digits.specs.Figures.{blanks, limit}
+use Rattle.number.specs.declared.Figures.{Figures}
+use Rattle.number.specs.declared.Figures.the-variants.{Units, Not}
+use Rattle.number.specs.Reading.{figuresOf, heldOf, numberOf}
+use Rattle.number.proofs.Parsing.{number-minus, number-plus, number-plain}
+use Rattle.shapes.specs.Shapes.{signAt, isUnits, markIn, sizeBy, shapeOf, sized, sizeOf}
+use Rattle.shapes.proofs.Small.{Small, figures-small}
+
+-- a number behind its blanks, with its sign if it has one
+pub number-signed : (pointed : Bool) (s : List ℕ) (at : ℕ) → at ≡ blanks s → at < length s
+    → heldOf (eqb (getD s at 0) 45) (figuresOf pointed (drop (at + signAt (getD s at 0)) s)) ≡ numberOf pointed s
+unfolding signAt
+number-signed pointed s at e h = elim (ℕ-discrete (getD s at 0) 45) [
+  | yes m ↦ rw m (number-minus pointed s at e h m)
+  | no m ↦ elim (ℕ-discrete (getD s at 0) 43) [
+    | yes p ↦ rw p (number-plus pointed s at e h p)
+    | no p ↦ rw (ne-eqb (getD s at 0) 45 m, ne-eqb (getD s at 0) 43 p, add-zero at) (number-plain pointed s at e h m p)
+  ]
+]
+
+-- its shape
+pub shape-held : (minus : Bool) (f : Figures) → Small f → cond (isUnits f) 0 9 ≡ shapeOf (heldOf minus f)
+unfolding heldOf
+shape-held minus Not h = refl
+shape-held minus (Units n p) h = rw (lt-ltb n limit h)
+
+-- its size
+pub size-held : (minus : Bool) (f : Figures) → sizeBy minus (markIn f) ≡ sizeOf (heldOf minus f)
+unfolding heldOf sizeBy signedOf
+size-held minus Not = refl
+size-held minus (Units n p) = elim (decLt n limit) [
+  | yes h ↦ rw (lt-ltb n limit h, ne-eqb (n + 1) 0 (λ e. omega arith), le-ltb limit (n + 1) (omega arith)) (below minus n)
+  | no h ↦ rw (le-ltb n limit (omega arith), ne-eqb (n + 1) 0 (λ e. omega arith), lt-ltb limit (n + 1) (omega arith))
+]
+  where
+    below : (minus : Bool) (n : ℕ) → cond (minus && not (eqb (n + 1) 1)) 3 (n + 1 + 3) ≡ sized (signedOf minus n)
+    below false n = omega arith
+    below true zero = refl
+    below true (suc n) = rw (ne-eqb (suc n + 1) 1 (λ e. omega arith))
+
+-- columns with something in them; of a decimal no more than eighteen
+
+module _ (s : List ℕ) (at : ℕ) (e : at ≡ blanks s) (inside : at < length s) (k : ℕ) (q : k ≡ signAt (getD s at 0)) where
+  from : drop (at + k) s ≡ drop (at + signAt (getD s at 0)) s
+  from = ap (λ (j : ℕ). drop (at + j) s) q
+
+  pub shape-short : length s ≤ 18 → (u : Bool) → u ≡ isUnits (figuresOf true (drop (at + k) s)) → cond u 0 9 ≡ shapeOf (numberOf true s)
+  shape-short few u h =
+      ap (λ (b : Bool). cond b 0 9) (h ∙ ap (λ (t : List ℕ). isUnits (figuresOf true t)) from)
+      ∙ shape-held (eqb (getD s at 0) 45) (figuresOf true (drop (at + signAt (getD s at 0)) s))
+      (figures-small true (drop (at + signAt (getD s at 0)) s) (omega (arith, length-drop (at + signAt (getD s at 0)) s)))
+      ∙ ap shapeOf (number-signed true s at e inside)
+
+  pub size-short : (m r : ℕ) → m ≡ markIn (figuresOf false (drop (at + k) s)) → r ≡ sizeBy (eqb (getD s at 0) 45) m
+      → r ≡ sizeOf (numberOf false s)
+  size-short m r h w =
+      let f : m ≡ markIn (figuresOf false (drop (at + signAt (getD s at 0)) s)) = h ∙ ap (λ (t : List ℕ). markIn (figuresOf false t)) from in
+      w ∙ ap (sizeBy (eqb (getD s at 0) 45)) f
+      ∙ size-held (eqb (getD s at 0) 45) (figuresOf false (drop (at + signAt (getD s at 0)) s))
+      ∙ ap sizeOf (number-signed false s at e inside)
