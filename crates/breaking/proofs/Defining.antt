@@ -48,12 +48,12 @@ module _ (h s : List ℕ) (column : ℕ) (d : Defining s column) where
 pub spared : (h numbers tags : List ℕ) (n : ℕ) (heads next times waypoints : List ℕ) (points : ℕ) (single : Bool)
     → Ready h numbers tags n heads next times waypoints points single
     → (s : List ℕ) (column k : ℕ) → k ≡ layoutOf s → printable s ≡ true
-    → (only : Bool) → only ≡ onlyDefines k column → (single && only) ≡ true → noneOf ≡ brokenFor h s column
+    → (single && onlyDefines k column) ≡ true → noneOf ≡ brokenFor h s column
 unfolding brokenFor
-spared h numbers tags n heads next times waypoints points single ready s column k is clean only e both =
-    let of-layout = ap (λ j. onlyDefines j column) (sym is) ∙ sym e ∙ and-right single only both in
+spared h numbers tags n heads next times waypoints points single ready s column k is clean both =
+    let of-layout = ap (λ j. onlyDefines j column) (sym is) ∙ and-right single (onlyDefines k column) both in
     let d = defining s column of-layout in
-    let once = ready .once (and-left single only both) (number h (ready .printed) s column clean defines) in
+    let once = ready .once (and-left single (onlyDefines k column) both) (number h (ready .printed) s column clean defines) in
     sym (rw (
       not-undefined h s column d,
       redefined-by h (ready .printed) s column clean,

@@ -12,7 +12,7 @@ ghost use Rattle.text.specs.Texts.{printable};
 ghost use Rattle.forms.specs.Cards.{cardsIn, layoutOf};
 ghost use Rattle.keys.specs.Keys.{contradict};
 ghost use Rattle.keys.specs.Lines.{unmarked};
-ghost use Rattle.tying.specs.Columns.{statesOwn};
+ghost use Rattle.tying.specs.Columns.{statesOwn, onlyDefines};
 ghost use Rattle.tally.specs.Chains.{Linked};
 ghost use Rattle.gathering.specs.Gathered.{Gathered};
 ghost use Rattle.breaking.specs.Asked.{linkTo, timesOf, onlyApart, contradictedBy, vesselCount, miscountedBy};
@@ -192,6 +192,16 @@ fn unbroken() -> Broken
     }
 }
 
+// Whether a column has no fault because no key is defined twice and it only defines.
+fn passes_over(single: bool, layout: usize, column: usize) -> bool
+    ensures { λ r. ⌜ r ≡ single && onlyDefines layout column ⌝ }
+{
+    if !single {
+        return false;
+    }
+    tying::only_defines(layout, column)
+}
+
 // Which kinds of fault a column of a card has. Where no key is defined twice, a column that only defines has none.
 pub fn judge_column(
     header: &[u8],
@@ -213,7 +223,7 @@ pub fn judge_column(
     requires { ⌜ Ready (now header) (now numbers) (now tags) n (now heads) (now next) (now times) (now waypoints) points single ⌝ }
     ensures { λ r. ⌜ r ≡ brokenFor (now (header .entry)) (now (card .entry)) column ⌝ }
 {
-    if single & tying::only_defines(layout, column) {
+    if passes_over(single, layout, column) {
         return unbroken();
     }
     let reference = keys::referred_by(card, layout, column);

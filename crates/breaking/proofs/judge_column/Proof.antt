@@ -1,13 +1,14 @@
 -- `breaking::judge_column` meets its contract.
 use denote.Ref.{now}
+use mathlib.Core.Path.{sym, _∙_}
 use Rattle.breaking.proofs.Defining.{spared}
 use Rattle.breaking.proofs.Judged.{counts-small, points-small, judged}
 use borrow.Author.Needs.{needs}
 use Rattle.breaking.proofs.judge_column.Statement.{statement}
 use Rattle.breaking.proofs.judge_column.Tie as tie
 
-only-defines-requires : tie.Need-only-defines-requires
-only-defines-requires c κs = search needs
+passes-over-requires : tie.Need-passes-over-requires
+passes-over-requires c κs = search needs
 
 unbroken-requires : tie.Need-unbroken-requires
 unbroken-requires c κs = search needs
@@ -19,7 +20,7 @@ returns c =
     let s = o .before .before .before in
     rw (c .unbroken .ensures)
     (spared _ _ _ _ _ _ _ _ _ _ (s .pre .1 .1) (now (s .args .card)) (s .args .column) (s .args .layout) (s .pre .0) (s .pre .1 .0)
-    _ (o .only-defines .ensures) (i .if1 .taken))
+    (sym (o .passes-over .ensures) ∙ i .if1 .taken))
 
 -- the call, seen from where a column is looked at further
 abbrev start : tie.Else1 → tie.Start
@@ -80,7 +81,7 @@ pub judge-column-spec : {M : Type 1} → statement M
 judge-column-spec =
     tie.close
     (tie.spec
-    only-defines-requires
+    passes-over-requires
     unbroken-requires
     returns
     referred-by-requires
