@@ -1,19 +1,18 @@
 -- Small steps: a number that lay in memory, equal answers, which answer has a text.
 use Prim.Native.Nat.{ℕ, zero, suc}
-use native.Mathlib.Omega.{arith}
 use mathlib.Core.Path.{_≡_, refl, sym, ap, _∙_}
-use mathlib.Core.Bool.{true, false, true≢false}
-use lib.IntN.{ℤ, pos, negsuc, natAbs}
+use mathlib.Core.Bool.{true, false}
+use lib.IntN.{ℤ, pos, negsuc}
+use borrow.Author.Tests.{ne-eqb}
 use mir.Syntax.{w64}
 use mir.Val.{toZ, ofZ, SFits}
 use mir.ValLaws.{toZ-ofZ}
 use Rattle.digits.specs.Figures.{capped}
-use Rattle.signs.specs.Signs.{signedOf, isMinus}
+use Rattle.signs.specs.Signs.{signedOf}
 use Rattle.spelling.specs.declared.Value.the-variants.{Absent, Whole, Decimal, Angle, Date, Text}
 use Rattle.field.specs.declared.FieldRead.{FieldRead}
 use Rattle.field.specs.declared.FieldRead.the-variants as read
-use Rattle.answers.specs.declared.Reply.{Reply}
-use Rattle.answers.specs.Replies.{reply, doneReply, valueReply, refusedReply, fieldReply, textReply}
+use Rattle.answers.specs.Replies.{reply, doneReply, valueReply, refusedReply, fieldReply, textReply, isText, textAlone}
 
 -- a signed number that lay in memory is itself
 pub back : (z w : ℤ) → SFits w64 z → z ≡ w → toZ w64 (ofZ w64 z) ≡ w
@@ -23,32 +22,27 @@ back z w f e = toZ-ofZ w64 z f ∙ e
 pub alike : {s t a b m n x y : ℤ} → s ≡ t → a ≡ b → m ≡ n → x ≡ y → reply s a m x ≡ reply t b n y
 alike p q r s = rw (p, q, r, s) refl
 
--- only the answer with a text says 5
+-- an answer that says 5, and any other
 
-differ : {m n : ℕ} → (m ≡ n → ⊥) → pos m ≡ pos n → ⊥
-differ h e = h (ap natAbs e)
+pub says-text : (z : ℤ) → z ≡ pos 5 → isText z ≡ true
+says-text z e = ap isText e
 
-minus-not : (n : ℕ) → signedOf true n ≡ pos 5 → ⊥
+pub says-other : (z : ℤ) → (z ≡ pos 5 → ⊥) → isText z ≡ false
+says-other (pos n) h = ne-eqb n 5 (λ q. h (ap pos q))
+says-other (negsuc n) h = refl
+
+-- the answer to a field, if it has a text, is the answer of its text
+minus-not : (n : ℕ) → isText (signedOf true n) ≡ false
 unfolding signedOf
-minus-not zero e = differ (λ q. omega arith) e
-minus-not (suc n) e = true≢false (ap isMinus e)
+minus-not zero = refl
+minus-not (suc n) = refl
 
-pub said-text : (f : FieldRead) (r : Reply) → r ≡ fieldReply f → r .said ≡ pos 5 → r ≡ textReply f
-unfolding fieldReply valueReply refusedReply textReply
-said-text (read.Is Absent) r e h = absurd (differ (λ q. omega arith) (sym (ap (λ (x : Reply). x .said) e) ∙ h))
-said-text (read.Is (Whole z)) r e h = absurd (differ (λ q. omega arith) (sym (ap (λ (x : Reply). x .said) e) ∙ h))
-said-text (read.Is (Decimal d)) r e h = absurd (differ (λ q. omega arith) (sym (ap (λ (x : Reply). x .said) e) ∙ h))
-said-text (read.Is (Angle z)) r e h = absurd (differ (λ q. omega arith) (sym (ap (λ (x : Reply). x .said) e) ∙ h))
-said-text (read.Is (Date d)) r e h = absurd (differ (λ q. omega arith) (sym (ap (λ (x : Reply). x .said) e) ∙ h))
-said-text (read.Is (Text c)) r e h = e
-said-text (read.Refused x) r e h = absurd (minus-not (capped (x .number)) (sym (ap (λ (y : Reply). y .said) e) ∙ h))
-
-pub said-other : (f : FieldRead) (r : Reply) → r ≡ fieldReply f → (r .said ≡ pos 5 → ⊥) → doneReply ≡ textReply f
-unfolding fieldReply valueReply textReply
-said-other (read.Is Absent) r e h = refl
-said-other (read.Is (Whole z)) r e h = refl
-said-other (read.Is (Decimal d)) r e h = refl
-said-other (read.Is (Angle z)) r e h = refl
-said-other (read.Is (Date d)) r e h = refl
-said-other (read.Is (Text c)) r e h = absurd (h (ap (λ (x : Reply). x .said) e))
-said-other (read.Refused x) r e h = refl
+pub text-alone : (f : FieldRead) → textAlone (fieldReply f) ≡ textReply f
+unfolding textAlone fieldReply valueReply refusedReply textReply
+text-alone (read.Is Absent) = refl
+text-alone (read.Is (Whole z)) = refl
+text-alone (read.Is (Decimal d)) = refl
+text-alone (read.Is (Angle z)) = refl
+text-alone (read.Is (Date d)) = refl
+text-alone (read.Is (Text c)) = refl
+text-alone (read.Refused x) = rw (minus-not (capped (x .number)))

@@ -1,7 +1,8 @@
 -- Each answer as numbers: one that says it, and the three that go with it.
 use Prim.Native.Nat.{ℕ}
-use mathlib.Core.Bool.{true, false}
-use lib.IntN.{ℤ, pos}
+use mathlib.Core.Bool.{Bool, true, false, cond}
+use lib.Dec.{eqb}
+use lib.IntN.{ℤ, pos, negsuc}
 use Rattle.digits.specs.Figures.{capped}
 use Rattle.signs.specs.Signs.{signedOf}
 use Rattle.seeking.specs.declared.Refusal.{Refusal}
@@ -59,6 +60,15 @@ textReply (read.Is (Angle z)) = doneReply
 textReply (read.Is (Date d)) = doneReply
 textReply (read.Is (Text c)) = valueReply (Text c)
 textReply (read.Refused r) = doneReply
+
+-- an answer that says 5, which only one with a text does
+abbrev pub isText : ℤ → Bool
+isText (pos n) = eqb n 5
+isText (negsuc n) = false
+
+-- a text by the answer to its field: all but a text is none
+unfoldable pub textAlone : Reply → Reply
+textAlone r = cond (isText (r .said)) r doneReply
 
 -- an entry: 0, or its refusal
 unfoldable pub enteredReply : Entered → Reply

@@ -11,7 +11,7 @@ use spelling::Columns;
 use spelling::Value;
 use ties::Ties;
 ghost use mathlib.Core.Path.{_≡_};
-ghost use Rattle.answers.specs.Replies.{plain, refusedReply, doneReply, valueReply, fieldReply, textReply, enteredReply, openedReply, countReply, atReply, tiesReply, definitionsReply, placeReply};
+ghost use Rattle.answers.specs.Replies.{plain, refusedReply, doneReply, valueReply, fieldReply, textAlone, enteredReply, openedReply, countReply, atReply, tiesReply, definitionsReply, placeReply};
 
 // What the answer with a text says.
 const TEXT: i64 = 5;
@@ -137,7 +137,7 @@ pub fn of_field(read: FieldRead) -> Reply
 
 // The reading of a field as a text, by the answer to it: all but a text is none.
 pub fn of_text(reply: Reply) -> Reply
-    ensures { λ r. ⌜ ((read : FieldRead) → reply ≡ fieldReply read → r ≡ textReply read) ⌝ }
+    ensures { λ r. ⌜ r ≡ textAlone reply ⌝ }
 {
     let said = reply.said;
     if said == TEXT {

@@ -1,6 +1,8 @@
 -- `p294::p294_read_text` meets its contract.
 use denote.Ref.{now}
 use mathlib.Core.Path.{_≡_, refl, sym, ap, _∙_}
+use Rattle.answers.specs.Replies.{textAlone}
+use Rattle.answers.proofs.Steps.{text-alone}
 use Rattle.p294.proofs.Giving.{answered}
 use borrow.Author.Needs.{needs}
 use Rattle.p294.proofs.p294_read_text.Statement.{statement}
@@ -22,7 +24,7 @@ returns : tie.Need-returns
 returns c =
     let g = c .before in
     answered (now (g .before .before .before .before .before .args .numbers)) _ (g .before .of-text .result) _ _ (record { sfits = g .give .ok })
-    (g .give .ensures .0) (g .give .ensures .1) (g .before .of-text .ensures _ (g .before .before .reading .ensures))
+    (g .give .ensures .0) (g .give .ensures .1) (g .before .of-text .ensures ∙ ap textAlone (g .before .before .reading .ensures) ∙ text-alone _)
 
 pub p294-read-text-spec : {M : Type 1} → statement M
 p294-read-text-spec =
