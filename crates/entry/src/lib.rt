@@ -3,7 +3,7 @@ use digits::Written;
 use layout::Field;
 use layout::Found;
 use seeking::Refusal;
-use seeking::Sought;
+use seeking::Way;
 use spelling::Value;
 ghost use mathlib.Core.Path.{_≡_};
 ghost use Prim.Native.Nat.{_≤_, _-_, _+_};
@@ -145,10 +145,10 @@ pub fn put(card: &mut [u8], number: usize, form: usize, v: Value) -> Entered
     ensures answer { λ r. ⌜ r ≡ answerOf (puttingOf (now (card .entry)) number form v) ⌝ }
     ensures card { λ _. ⌜ now (card .exit) ≡ leftBy (puttingOf (now (card .entry)) number form v) (now (card .entry)) ⌝ }
 {
-    let sought = seeking::seek(card, number, form);
-    match sought {
-        Sought::Refused(r) => Entered::Refused(r),
-        Sought::Is(k, f) => enter(card, k, number, f, form == 1, v),
+    let way = seeking::seek(card, number, form);
+    match way {
+        Way::Refused(r) => Entered::Refused(r),
+        Way::At(k, row) => enter(card, k, number, fields::field_in(row), form == 1, v),
     }
 }
 
@@ -157,9 +157,9 @@ pub fn put_text(card: &mut [u8], number: usize, form: usize, text: &[u8]) -> Ent
     ensures answer { λ r. ⌜ r ≡ answerOf (puttingTextOf (now (card .entry)) number form (now (text .entry))) ⌝ }
     ensures card { λ _. ⌜ now (card .exit) ≡ leftBy (puttingTextOf (now (card .entry)) number form (now (text .entry))) (now (card .entry)) ⌝ }
 {
-    let sought = seeking::seek(card, number, form);
-    match sought {
-        Sought::Refused(r) => Entered::Refused(r),
-        Sought::Is(_, f) => write_text(card, f, form == 1, text),
+    let way = seeking::seek(card, number, form);
+    match way {
+        Way::Refused(r) => Entered::Refused(r),
+        Way::At(_, row) => write_text(card, fields::field_in(row), form == 1, text),
     }
 }

@@ -9,16 +9,18 @@ use denote.Enum.Declared.{tagOf}
 use types.Run.{OneOf, miss}
 use Rattle.spelling.proofs.Value.{the-type as value-type}
 use Rattle.judging.proofs.Judged.{the-type as judged-type}
-use Rattle.seeking.proofs.Sought.{the-type as sought-type}
+use Rattle.seeking.proofs.Way.{the-type as way-type}
 use Rattle.text.specs.Texts.{textOf}
 use Rattle.spelling.specs.declared.Value.{Value}
 use Rattle.spelling.specs.declared.Value.the-variants as value
 use Rattle.layout.specs.declared.Field.{Field}
 use Rattle.judging.specs.declared.Judged.{Judged}
 use Rattle.judging.specs.declared.Judged.the-variants as judged
-use Rattle.seeking.specs.declared.Sought.{Sought}
-use Rattle.seeking.specs.declared.Sought.the-variants.{Is, Refused}
-use Rattle.seeking.specs.Card.{soughtOf}
+use Rattle.seeking.specs.declared.Sought.the-variants.{Is}
+use Rattle.seeking.specs.declared.Way.{Way}
+use Rattle.seeking.specs.declared.Way.the-variants as way
+use Rattle.seeking.specs.Card.{soughtOf, wayFor}
+use Rattle.seeking.proofs.Steps.{way-refused}
 use Rattle.judging.specs.Fields.{columnsOf, judgedOf}
 use Rattle.field.specs.Reading.{answeredOf, fieldOn, fieldReading, holdsText, textOn, fieldText}
 
@@ -43,10 +45,11 @@ text-other (value.Angle z) h = refl
 text-other (value.Date d) h = refl
 text-other (value.Text c) h = absurd (miss (0 ∷ 1 ∷ 2 ∷ 3 ∷ 4 ∷ []) 5 tt h)
 
-pub text-refused : (s : List ℕ) (n form : ℕ) (o : Sought) → soughtOf s n form ≡ o → OneOf (1 ∷ []) (tagOf sought-type o) → fieldText s n form ≡ []
+pub text-refused : (s : List ℕ) (n form : ℕ) (w : Way) → w ≡ wayFor n (soughtOf s n form) → OneOf (1 ∷ []) (tagOf way-type w)
+    → fieldText s n form ≡ []
 unfolding fieldText textOn
-text-refused s n form (Is k f) q h = absurd (miss (1 ∷ []) 0 tt h)
-text-refused s n form (Refused r) q h = rw q
+text-refused s n form (way.At k r) e h = absurd (miss (1 ∷ []) 0 tt h)
+text-refused s n form (way.Refused r) e h = rw (way-refused s n form (way.Refused r) e r refl)
 
 module _ (s : List ℕ) (n form k : ℕ) (f : Field) (q : soughtOf s n form ≡ Is k f) (j : Judged) (e : j ≡ judgedOf k s f (eqb form 1)) where
   pub text-none : holdsText j ≡ false → fieldText s n form ≡ []

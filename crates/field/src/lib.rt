@@ -2,7 +2,7 @@
 use judging::Judged;
 use layout::Field;
 use seeking::Refusal;
-use seeking::Sought;
+use seeking::Way;
 use spelling::Value;
 ghost use mathlib.Core.Path.{_≡_};
 ghost use Prim.Native.Nat.{_≤_, _-_};
@@ -36,10 +36,13 @@ fn answered(f: Field, j: Judged) -> FieldRead
 pub fn read_field(card: &[u8], number: usize, form: usize) -> FieldRead
     ensures { λ r. ⌜ r ≡ fieldReading (now (card .entry)) number form ⌝ }
 {
-    let sought = seeking::seek(card, number, form);
-    match sought {
-        Sought::Refused(r) => FieldRead::Refused(r),
-        Sought::Is(k, f) => answered(f, judging::judge(card, k, f, form == 1)),
+    let way = seeking::seek(card, number, form);
+    match way {
+        Way::Refused(r) => FieldRead::Refused(r),
+        Way::At(k, row) => {
+            let f = fields::field_in(row);
+            answered(f, judging::judge(card, k, f, form == 1))
+        }
     }
 }
 
@@ -65,10 +68,11 @@ fn columns(card: &[u8], first: usize, last: usize) -> &[u8]
 pub fn read_text(card: &[u8], number: usize, form: usize) -> &[u8]
     ensures { λ r. ⌜ now r ≡ fieldText (now (card .entry)) number form ⌝ }
 {
-    let sought = seeking::seek(card, number, form);
-    let Sought::Is(k, f) = sought else {
+    let way = seeking::seek(card, number, form);
+    let Way::At(k, row) = way else {
         return &card[..0];
     };
+    let f = fields::field_in(row);
     if !holds_text(judging::judge(card, k, f, form == 1)) {
         return &card[..0];
     }

@@ -17,8 +17,14 @@ use Rattle.layout.specs.declared.Found.{Found}
 use Rattle.layout.specs.declared.Found.the-variants as found
 use Rattle.codes.specs.Codes.{codeOf}
 use Rattle.layout.specs.Layouts.{fieldOf}
+use Rattle.layout.specs.Packed.{unpack, rowOf, foundIn}
+use Rattle.layout.proofs.Lines.{no-zeroth, found-in}
+use Rattle.seeking.specs.declared.Refusal.{Refusal}
+use Rattle.seeking.specs.declared.Sought.{Sought}
 use Rattle.seeking.specs.declared.Sought.the-variants.{Is, Refused}
-use Rattle.seeking.specs.Card.{refusal, badAt, goodTo, firstBad, underForm, coded, soughtOf}
+use Rattle.seeking.specs.declared.Way.{Way}
+use Rattle.seeking.specs.declared.Way.the-variants as way
+use Rattle.seeking.specs.Card.{refusal, badAt, goodTo, firstBad, underForm, coded, soughtOf, wayFor}
 
 both : (a b : Bool) → a && b ≡ true → (a ≡ true) × (b ≡ true)
 both true true e = (refl, refl)
@@ -137,3 +143,39 @@ found-coded s n form k f e = go (eqb (length s) 0) (not (eqb (length s) 80)) (lt
     go false true c q h = absurd (true≢false cc)
     go false false true q h = absurd (true≢false cc)
     go false false false q h = (ltb-false (firstBad s) 80 q, h)
+
+-- a way tells what was sought
+
+found-row : (k n : ℕ) (f : Field) → fieldOf k n ≡ found.Is f → unpack (rowOf k n) ≡ f
+unfolding foundIn
+found-row k n f e = go (eqb (rowOf k n) 0) (found-in k n counted ∙ e)
+  where
+    counted : n ≡ 0 → ⊥
+    counted z = let h : found.Nothing ≡ found.Is f = no-zeroth k n z ∙ e in true≢false cc
+
+    go : (b : Bool) → cond b found.Nothing (found.Is (unpack (rowOf k n))) ≡ found.Is f → unpack (rowOf k n) ≡ f
+    go true h = absurd (true≢false cc)
+    go false h = cc
+
+module _ (s : List ℕ) (n form : ℕ) (w : Way) (e : w ≡ wayFor n (soughtOf s n form)) where
+  pub way-at : (k r : ℕ) (f : Field) → w ≡ way.At k r → f ≡ unpack r → soughtOf s n form ≡ Is k f
+  unfolding wayFor
+  way-at k r f h q = go (soughtOf s n form) refl (sym h ∙ e)
+    where
+      go : (o : Sought) → soughtOf s n form ≡ o → way.At k r ≡ wayFor n o → soughtOf s n form ≡ Is k f
+      go (Is j g) p d =
+          let a : j ≡ k = cc in
+          let b : r ≡ rowOf j n = cc in
+          let c : g ≡ f = sym (found-row j n g (found-there s n form j g p .field)) ∙ ap unpack (sym b) ∙ sym q in
+          p ∙ ap (λ (i : ℕ). Is i g) a ∙ ap (λ (x : Field). Is k x) c
+      go (Refused x) p d = absurd (true≢false cc)
+
+  pub way-refused : (x : Refusal) → w ≡ way.Refused x → soughtOf s n form ≡ Refused x
+  unfolding wayFor
+  way-refused x h = go (soughtOf s n form) refl (sym h ∙ e)
+    where
+      go : (o : Sought) → soughtOf s n form ≡ o → way.Refused x ≡ wayFor n o → soughtOf s n form ≡ Refused x
+      go (Is j g) p d = absurd (true≢false cc)
+      go (Refused y) p d =
+          let a : y ≡ x = cc in
+          p ∙ ap (λ (z : Refusal). Refused z) a

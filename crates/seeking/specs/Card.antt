@@ -12,9 +12,12 @@ use Rattle.layout.specs.declared.Found.{Found}
 use Rattle.layout.specs.declared.Found.the-variants as found
 use Rattle.codes.specs.Codes.{codeOf}
 use Rattle.layout.specs.Layouts.{fieldOf}
+use Rattle.layout.specs.Packed.{rowOf}
 use Rattle.seeking.specs.declared.Refusal.{Refusal}
 use Rattle.seeking.specs.declared.Sought.{Sought}
 use Rattle.seeking.specs.declared.Sought.the-variants.{Is, Refused}
+use Rattle.seeking.specs.declared.Way.{Way}
+use Rattle.seeking.specs.declared.Way.the-variants as way
 
 -- a refusal's number, card and column
 abbrev pub refusal : ℕ → ℕ → ℕ → Refusal
@@ -50,3 +53,8 @@ soughtOf s n form =
     cond (eqb (length s) 0) (Refused (refusal 1 0 0))
     (cond (not (eqb (length s) 80)) (Refused (refusal 2 0 0))
     (cond (ltb (firstBad s) 80) (Refused (refusal 4 1 (firstBad s + 1))) (coded (codeOf (take 5 s)) n form)))
+
+-- the same by the row of the field with the number
+unfoldable pub wayFor : ℕ → Sought → Way
+wayFor n (Is k f) = way.At k (rowOf k n)
+wayFor n (Refused r) = way.Refused r

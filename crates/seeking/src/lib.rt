@@ -4,7 +4,7 @@ use layout::Field;
 ghost use mathlib.Core.Path.{_≡_};
 ghost use lib.ListN.{length};
 ghost use Rattle.layout.specs.Layouts.{fieldOf};
-ghost use Rattle.seeking.specs.Card.{refusal, goodTo, firstBad, underForm, soughtOf};
+ghost use Rattle.seeking.specs.Card.{refusal, goodTo, firstBad, underForm, soughtOf, wayFor};
 
 const CARD: usize = 80;
 
@@ -17,17 +17,23 @@ pub struct Refusal {
     pub column: usize,
 }
 
-// The field that a number names, with its layout.
+// The field that a number names, with its layout: what is promised of a card says so.
 pub enum Sought {
     Is(usize, Field),
     Refused(Refusal),
 }
 
+// The same by the field's row, one number, so that no field is copied on the way.
+pub enum Way {
+    At(usize, u64),
+    Refused(Refusal),
+}
+
 // A refusal on the way to a field.
-fn refused(number: usize, card: usize, column: usize) -> Sought
-    ensures { λ r. ⌜ r ≡ Sought.Refused (refusal number card column) ⌝ }
+fn refused(number: usize, card: usize, column: usize) -> Way
+    ensures { λ r. ⌜ r ≡ Way.Refused (refusal number card column) ⌝ }
 {
-    Sought::Refused(Refusal {
+    Way::Refused(Refusal {
         number,
         card,
         column,
@@ -69,9 +75,9 @@ pub fn first_bad(s: &[u8]) -> usize
     i
 }
 
-// The field with a number in a layout, under a form: by its row, since a field that is found is copied once more.
-fn under_form(layout: usize, number: usize, form: usize) -> Sought
-    ensures { λ r. ⌜ r ≡ underForm layout form (fieldOf layout number) ⌝ }
+// The field with a number in a layout, under a form.
+fn under_form(layout: usize, number: usize, form: usize) -> Way
+    ensures { λ r. ⌜ r ≡ wayFor number (underForm layout form (fieldOf layout number)) ⌝ }
 {
     if number == 0 {
         return refused(13, 0, 0);
@@ -83,12 +89,12 @@ fn under_form(layout: usize, number: usize, form: usize) -> Sought
     if 1 < form {
         return refused(10, 0, 0);
     }
-    Sought::Is(layout, fields::field_in(row))
+    Way::At(layout, row)
 }
 
 // The field with a number on a card, or the first refusal on the way to it.
-pub fn seek(card: &[u8], number: usize, form: usize) -> Sought
-    ensures { λ r. ⌜ r ≡ soughtOf (now (card .entry)) number form ⌝ }
+pub fn seek(card: &[u8], number: usize, form: usize) -> Way
+    ensures { λ r. ⌜ r ≡ wayFor number (soughtOf (now (card .entry)) number form) ⌝ }
 {
     if card.len() == 0 {
         return refused(1, 0, 0);

@@ -1,60 +1,63 @@
-use Rattle.seeking.proofs.Steps.{found-there}
-use Rattle.field.proofs.Steps.{reading-is}
-use Rattle.layout.proofs.Numbers.{found-lies}
-use Rattle.field.specs.Reading.{fieldReading, fieldOn, answeredOf}
+-- `field::read_field` meets its contract.
 use denote.Ref.{now}
 use mathlib.Core.Path.{_≡_, refl, sym, ap, _∙_}
 use native.Mathlib.Omega.{arith}
 use borrow.Author.Needs.{needs}
+use Rattle.layout.proofs.Numbers.{found-lies}
+use Rattle.seeking.proofs.Steps.{found-there, way-at, way-refused}
+use Rattle.field.specs.Reading.{fieldReading, fieldOn, answeredOf}
+use Rattle.field.proofs.Steps.{reading-is}
 use Rattle.field.proofs.read_field.Statement.{statement}
 use Rattle.field.proofs.read_field.Tie as tie
-use Rattle.field.proofs.read_field.Reads as reads
-use Rattle.field.proofs.read_field.Lts as lts
-use Rattle.field.proofs.answered.Reads as answered-reads
-use Rattle.judging.proofs.judge.Reads as judge-reads
-use Rattle.seeking.proofs.seek.Reads as seek-reads
 
--- src/lib.rt:281:9
 seek-requires : tie.Need-seek-requires
 seek-requires c κs = search needs
 
--- src/lib.rt:283:25
-enum-known-sought : tie.Need-enum-known-sought
-enum-known-sought c = search needs
+enum-known-way : tie.Need-enum-known-way
+enum-known-way c = search needs
 
--- src/lib.rt:284:20
-enum-known-sought-2 : tie.Need-enum-known-sought-2
-enum-known-sought-2 c = search needs
+enum-known-way-2 : tie.Need-enum-known-way-2
+enum-known-way-2 c = search needs
 
--- src/lib.rt:284:41
+field-in-requires : tie.Need-field-in-requires
+field-in-requires c κs = search needs
+
 judge-requires : tie.Need-judge-requires
 judge-requires c κs =
-    let h = found-there (now (c .before .before .before .before .before .args .card)) _ _ _ (c .before .sought2 .given .0 .1 .0) (sym (c .before .before .before .seek .ensures) ∙ c .before .sought2 .given .1) in
-    let l = found-lies _ _ (c .before .sought2 .given .0 .1 .0) (h .field) in
+    let w = c .before .before in
+    let k = w .before .before in
+    let s = now (k .before .before .args .card) in
+    let q = way-at s _ _ _ (k .seek .ensures) _ _ (c .field-in .result) (w .way2 .given .1) (c .field-in .ensures) in
+    let h = found-there s _ _ _ (c .field-in .result) q in
+    let l = found-lies _ _ (c .field-in .result) (h .field) in
     (h .whole, omega (arith, l .after), l .forward, l .on-card)
 
--- src/lib.rt:284:29
 answered-requires : tie.Need-answered-requires
 answered-requires c κs = search needs
 
--- src/lib.rt:278:1
 returns : tie.Need-returns
 unfolding fieldReading fieldOn
-returns c = sym (ap (fieldOn _ _) (sym (c .before .before .before .seek .ensures) ∙ c .before .sought .given .1))
+returns c =
+    let k = c .before .before .before in
+    sym (ap (fieldOn _ _) (way-refused (now (k .before .before .args .card)) _ _ _ (k .seek .ensures) _ (c .before .way .given .1)))
 
--- src/lib.rt:278:1
 returns-2 : tie.Need-returns-2
 returns-2 c =
-    c .answered .ensures
-    ∙ reading-is (now (c .before .before .before .before .before .before .before .args .card)) _ _ _ (c .before .before .before .sought2 .given .0 .1 .0) (sym (c .before .before .before .before .before .seek .ensures) ∙ c .before .before .before .sought2 .given .1) _ (c .before .judge .ensures)
+    let i = c .before .before in
+    let w = i .before .before in
+    let k = w .before .before in
+    let s = now (k .before .before .args .card) in
+    let q = way-at s _ _ _ (k .seek .ensures) _ _ (i .field-in .result) (w .way2 .given .1) (i .field-in .ensures) in
+    c .answered .ensures ∙ reading-is s _ _ _ (i .field-in .result) q _ (c .before .judge .ensures)
 
 pub read-field-spec : {M : Type 1} → statement M
 read-field-spec =
     tie.close
     (tie.spec
     seek-requires
-    enum-known-sought
-    enum-known-sought-2
+    enum-known-way
+    enum-known-way-2
+    field-in-requires
     judge-requires
     answered-requires
     returns

@@ -1,5 +1,5 @@
 use Rattle.seeking.proofs.Steps.{sought-none, sought-odd, sought-bad, sought-coded}
-use Rattle.seeking.specs.Card.{coded}
+use Rattle.seeking.specs.Card.{coded, wayFor}
 use lib.Seq.{length-take-le}
 use denote.Ref.{now}
 use mathlib.Core.Path.{_≡_, refl, sym, ap, _∙_}
@@ -20,7 +20,8 @@ refused-requires c κs = search needs
 
 -- src/lib.rt:95:9
 returns : tie.Need-returns
-returns c = c .refused .ensures ∙ sym (sought-none _ _ _ (c .before .if1 .taken))
+unfolding wayFor
+returns c = c .refused .ensures ∙ ap (wayFor _) (sym (sought-none _ _ _ (c .before .if1 .taken)))
 
 -- src/lib.rt:98:9
 refused-requires-2 : tie.Need-refused-requires-2
@@ -28,7 +29,8 @@ refused-requires-2 c κs = search needs
 
 -- src/lib.rt:98:9
 returns-2 : tie.Need-returns-2
-returns-2 c = c .refused2 .ensures ∙ sym (sought-odd _ _ _ (c .before .before .if1 .left) (c .before .if2 .taken))
+unfolding wayFor
+returns-2 c = c .refused2 .ensures ∙ ap (wayFor _) (sym (sought-odd _ _ _ (c .before .before .if1 .left) (c .before .if2 .taken)))
 
 -- src/lib.rt:100:9
 first-bad-requires : tie.Need-first-bad-requires
@@ -44,7 +46,8 @@ refused-requires-3 c κs = search needs
 
 -- src/lib.rt:102:9
 returns-3 : tie.Need-returns-3
-returns-3 c = c .refused3 .ensures ∙ sym (sought-bad _ _ _ (c .before .before .before .before .if1 .left) (c .before .before .before .if2 .left) _ (c .before .before .first-bad .ensures) (c .before .if3 .taken))
+unfolding wayFor
+returns-3 c = c .refused3 .ensures ∙ ap (wayFor _) (sym (sought-bad _ _ _ (c .before .before .before .before .if1 .left) (c .before .before .before .if2 .left) _ (c .before .before .first-bad .ensures) (c .before .if3 .taken)))
 
 -- src/lib.rt:104:32
 slice-aggregate-code-of : tie.Need-slice-aggregate-code-of
@@ -80,18 +83,18 @@ under-form-requires c κs = search needs
 
 -- src/lib.rt:91:1
 returns-4 : tie.Need-returns-4
-unfolding coded
-returns-4 c = c .refused4 .ensures ∙ sym (sought-coded _ _ _ (c .before .before .before .before .before .before .before .before .if1 .left) (c .before .before .before .before .before .before .before .if2 .left) _ (c .before .before .before .before .before .before .first-bad .ensures) (c .before .before .before .before .before .if3 .left) ∙ ap (λ k. coded k (c .before .before .before .before .before .before .before .before .before .before .args .number) (c .before .before .before .before .before .before .before .before .before .before .args .form)) (sym (c .before .before .before .code-of .ensures) ∙ c .before .enum-told .given .1))
+unfolding wayFor coded
+returns-4 c = c .refused4 .ensures ∙ ap (wayFor _) (sym (sought-coded _ _ _ (c .before .before .before .before .before .before .before .before .if1 .left) (c .before .before .before .before .before .before .before .if2 .left) _ (c .before .before .before .before .before .before .first-bad .ensures) (c .before .before .before .before .before .if3 .left) ∙ ap (λ k. coded k (c .before .before .before .before .before .before .before .before .before .before .args .number) (c .before .before .before .before .before .before .before .before .before .before .args .form)) (sym (c .before .before .before .code-of .ensures) ∙ c .before .enum-told .given .1)))
 
 -- src/lib.rt:91:1
 returns-5 : tie.Need-returns-5
-unfolding coded
-returns-5 c = c .refused5 .ensures ∙ sym (sought-coded _ _ _ (c .before .before .before .before .before .before .before .before .if1 .left) (c .before .before .before .before .before .before .before .if2 .left) _ (c .before .before .before .before .before .before .first-bad .ensures) (c .before .before .before .before .before .if3 .left) ∙ ap (λ k. coded k (c .before .before .before .before .before .before .before .before .before .before .args .number) (c .before .before .before .before .before .before .before .before .before .before .args .form)) (sym (c .before .before .before .code-of .ensures) ∙ c .before .enum-told2 .given .1))
+unfolding wayFor coded
+returns-5 c = c .refused5 .ensures ∙ ap (wayFor _) (sym (sought-coded _ _ _ (c .before .before .before .before .before .before .before .before .if1 .left) (c .before .before .before .before .before .before .before .if2 .left) _ (c .before .before .before .before .before .before .first-bad .ensures) (c .before .before .before .before .before .if3 .left) ∙ ap (λ k. coded k (c .before .before .before .before .before .before .before .before .before .before .args .number) (c .before .before .before .before .before .before .before .before .before .before .args .form)) (sym (c .before .before .before .code-of .ensures) ∙ c .before .enum-told2 .given .1)))
 
 -- src/lib.rt:91:1
 returns-6 : tie.Need-returns-6
-unfolding coded
-returns-6 c = c .under-form .ensures ∙ sym (sought-coded _ _ _ (c .before .before .before .before .before .before .before .before .before .if1 .left) (c .before .before .before .before .before .before .before .before .if2 .left) _ (c .before .before .before .before .before .before .before .first-bad .ensures) (c .before .before .before .before .before .before .if3 .left) ∙ ap (λ k. coded k (c .before .before .before .before .before .before .before .before .before .before .before .args .number) (c .before .before .before .before .before .before .before .before .before .before .before .args .form)) (sym (c .before .before .before .before .code-of .ensures) ∙ c .before .before .code .given .1))
+unfolding wayFor coded
+returns-6 c = c .under-form .ensures ∙ ap (wayFor _) (sym (sought-coded _ _ _ (c .before .before .before .before .before .before .before .before .before .if1 .left) (c .before .before .before .before .before .before .before .before .if2 .left) _ (c .before .before .before .before .before .before .before .first-bad .ensures) (c .before .before .before .before .before .before .if3 .left) ∙ ap (λ k. coded k (c .before .before .before .before .before .before .before .before .before .before .before .args .number) (c .before .before .before .before .before .before .before .before .before .before .before .args .form)) (sym (c .before .before .before .before .code-of .ensures) ∙ c .before .before .code .given .1)))
 
 pub seek-spec : {M : Type 1} → statement M
 seek-spec =

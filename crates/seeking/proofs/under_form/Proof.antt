@@ -1,7 +1,9 @@
 -- `seeking::under_form` meets its contract: a row is the field, or there is none.
-use mathlib.Core.Path.{_≡_, refl, sym, _∙_}
+use mathlib.Core.Path.{_≡_, refl, sym, ap, _∙_}
 use borrow.Author.Needs.{needs}
 use Rattle.layout.proofs.Lines.{no-zeroth, is-none, is-found}
+use Rattle.seeking.specs.declared.Way.the-variants as Way
+use Rattle.seeking.specs.Card.{wayFor}
 use Rattle.seeking.proofs.Steps.{form-none, form-odd, form-good}
 use Rattle.seeking.proofs.under_form.Statement.{statement}
 use Rattle.seeking.proofs.under_form.Tie as tie
@@ -10,7 +12,8 @@ refused-requires : tie.Need-refused-requires
 refused-requires c κs = search needs
 
 returns : tie.Need-returns
-returns c = c .refused .ensures ∙ sym (form-none _ _ _ (sym (no-zeroth _ _ (c .before .if1 .taken))))
+unfolding wayFor
+returns c = c .refused .ensures ∙ ap (wayFor _) (sym (form-none _ _ _ (sym (no-zeroth _ _ (c .before .if1 .taken)))))
 
 row-of-requires : tie.Need-row-of-requires
 row-of-requires c κs = search needs
@@ -19,26 +22,28 @@ refused-requires-2 : tie.Need-refused-requires-2
 refused-requires-2 c κs = search needs
 
 returns-2 : tie.Need-returns-2
+unfolding wayFor
 returns-2 c =
     let r = c .before .before in
-    c .refused2 .ensures ∙ sym (form-none _ _ _ (sym (is-none _ _ _ (r .before .if1 .left) (r .row-of .ensures) (c .before .if2 .taken))))
+    c .refused2 .ensures ∙ ap (wayFor _) (sym (form-none _ _ _ (sym (is-none _ _ _ (r .before .if1 .left) (r .row-of .ensures) (c .before .if2 .taken)))))
 
 refused-requires-3 : tie.Need-refused-requires-3
 refused-requires-3 c κs = search needs
 
 returns-3 : tie.Need-returns-3
+unfolding wayFor
 returns-3 c =
     let r = c .before .before .before in
     c .refused3 .ensures
-    ∙ sym (form-odd _ _ _ _ (sym (is-found _ _ _ _ (r .before .if1 .left) (r .row-of .ensures) (c .before .before .if2 .left) refl)) (c .before .if3 .taken))
-
-field-in-requires : tie.Need-field-in-requires
-field-in-requires c κs = search needs
+    ∙ ap (wayFor _) (sym (form-odd _ _ _ _ (sym (is-found _ _ _ _ (r .before .if1 .left) (r .row-of .ensures) (c .before .before .if2 .left) refl)) (c .before .if3 .taken)))
 
 returns-4 : tie.Need-returns-4
+unfolding wayFor
 returns-4 c =
-    let r = c .before .before .before in
-    sym (form-good _ _ _ _ (sym (is-found _ _ _ _ (r .before .if1 .left) (r .row-of .ensures) (c .before .before .if2 .left) (c .field-in .ensures))) (c .before .if3 .left))
+    let r = c .before .before in
+    let a = r .before .before .args in
+    ap (λ x. Way.At (a .layout) x) (r .row-of .ensures)
+    ∙ ap (wayFor (a .number)) (sym (form-good _ _ _ _ (sym (is-found _ _ _ _ (r .before .if1 .left) (r .row-of .ensures) (c .before .if2 .left) refl)) (c .if3 .left)))
 
 pub under-form-spec : {M : Type 1} → statement M
 under-form-spec =
@@ -51,5 +56,4 @@ under-form-spec =
     returns-2
     refused-requires-3
     returns-3
-    field-in-requires
     returns-4)
