@@ -15,7 +15,7 @@ use Rattle.bearing.proofs.Told.{vessel-at}
 use Rattle.gathering.specs.Numbers.{tagOn}
 use Rattle.noting.proofs.Noting.{points-few}
 use Rattle.gathering.proofs.Counting.{counted-few}
-use Rattle.breaking.specs.declared.Broken.{Broken}
+use Rattle.entries.specs.declared.Broken.{Broken}
 use Rattle.breaking.specs.Asked.{timesOf, onlyApart, contradictedBy, miscountedBy}
 use Rattle.breaking.specs.Kinds.{brokenFor}
 use Rattle.breaking.specs.Ready.{Ready}

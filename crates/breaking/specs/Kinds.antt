@@ -3,7 +3,7 @@ use Prim.Native.Nat.{ℕ}
 use mathlib.Core.Bool.{false}
 use mathlib.Core.List.{List}
 use Rattle.broken.specs.Faults as kind
-use Rattle.breaking.specs.declared.Broken.{Broken}
+use Rattle.entries.specs.declared.Broken.{Broken}
 
 unfoldable pub brokenFor : List ℕ → List ℕ → ℕ → Broken
 brokenFor h s column = record {

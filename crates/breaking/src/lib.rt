@@ -1,4 +1,5 @@
 // Which kinds of fault a column of a card has, by the definitions that were gathered.
+use entries::Broken;
 use gathering::VESSELS;
 use tally::BUCKETS;
 use tally::ROOM;
@@ -28,15 +29,6 @@ const H0100: usize = 12;
 
 // From here on a vessel digit says nothing.
 const NO_VESSEL: u8 = 10;
-
-// Which kinds of fault a column has.
-pub struct Broken {
-    pub undefined: bool,
-    pub redefined: bool,
-    pub ambiguous: bool,
-    pub contradicted: bool,
-    pub miscounted: bool,
-}
 
 // Where the tally has a number last; 0 where it has it not, and for 0, which is no number.
 fn find_number(

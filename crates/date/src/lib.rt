@@ -115,6 +115,6 @@ pub fn write_date(columns: &mut [u8], d: Date) -> digits::Written
     if columns.len() != WIDTH {
         return digits::Written::NoRoom;
     }
-    digits::fill_digits(columns, number_of(d));
+    filling::fill_digits(columns, number_of(d));
     digits::Written::Done
 }

@@ -9,7 +9,7 @@ const H00X9: usize = 9;
 
 // Whether the field with a number begins in a column.
 fn begins_at(layout: usize, number: usize, column: usize) -> bool {
-    let found = fields::field_of(layout, number);
+    let found = finding::field_of(layout, number);
     let Found::Is(f) = found else {
         return false;
     };
@@ -18,7 +18,7 @@ fn begins_at(layout: usize, number: usize, column: usize) -> bool {
 
 // The number of the field that begins in a column, 0 where there is none.
 fn number_at(layout: usize, column: usize) -> usize {
-    let count = fields::fields_in(layout);
+    let count = finding::fields_in(layout);
     let mut n = 0;
     while n < count {
         n += 1;
@@ -251,7 +251,7 @@ pub fn push_field(
     column: usize,
 ) -> usize {
     let layout = forms::layout_of(card);
-    let found = fields::field_of(layout, number_at(layout, column));
+    let found = finding::field_of(layout, number_at(layout, column));
     let Found::Is(f) = found else {
         return n;
     };

@@ -32,7 +32,7 @@ use Rattle.field.specs.Reading.{answeredOf, fieldReading, holdsText, textOn, fi
 use Rattle.seeking.proofs.Steps.{found-there, found-coded, sought-coded}
 use Rattle.field.proofs.Steps.{reading-is}
 use Rattle.entry.specs.Putting.{width, placedIn, isAbsent, within}
-use Rattle.entry.proofs.Bytes.{none-bad, bad-none, rest-printable}
+use Rattle.seeking.proofs.Bytes.{none-bad, bad-none, rest-printable}
 use Rattle.entry.proofs.Steps.{columns-wide}
 
 -- a card with other bytes in a field's columns, as many and printable

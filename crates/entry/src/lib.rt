@@ -73,7 +73,7 @@ fn other_second(card: &[u8], layout: usize, number: usize) -> bool
     requires { ⌜ length (now card) ≡ 80 ⌝ }
     ensures { λ r. ⌜ r ≡ otherSecond (now (card .entry)) number 1 (fieldsOf layout) ⌝ }
 {
-    let count = fields::fields_in(layout);
+    let count = finding::fields_in(layout);
     let mut n = 0;
     while n < count {
         n += 1;
@@ -148,7 +148,7 @@ pub fn put(card: &mut [u8], number: usize, form: usize, v: Value) -> Entered
     let way = seeking::seek(card, number, form);
     match way {
         Way::Refused(r) => Entered::Refused(r),
-        Way::At(k, row) => enter(card, k, number, fields::field_in(row), form == 1, v),
+        Way::At(k, row) => enter(card, k, number, finding::field_in(row), form == 1, v),
     }
 }
 
@@ -160,6 +160,6 @@ pub fn put_text(card: &mut [u8], number: usize, form: usize, text: &[u8]) -> Ent
     let way = seeking::seek(card, number, form);
     match way {
         Way::Refused(r) => Entered::Refused(r),
-        Way::At(_, row) => write_text(card, fields::field_in(row), form == 1, text),
+        Way::At(_, row) => write_text(card, finding::field_in(row), form == 1, text),
     }
 }

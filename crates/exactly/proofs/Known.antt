@@ -27,7 +27,7 @@ use Rattle.codes.proofs.Walk.{is-unknown}
 use Rattle.codes.proofs.Apart.{Fits, in-each}
 use Rattle.seeking.specs.Card.{badAt, firstBad}
 use Rattle.seeking.proofs.Steps.{good-byte}
-use Rattle.entry.proofs.Bytes.{bad-none}
+use Rattle.seeking.proofs.Bytes.{bad-none}
 use Rattle.opening.specs.Opening.{labelled, newCard}
 use Rattle.exactly.specs.Words.{isUnknown}
 use Rattle.exactly.proofs.Blanked.{blank-printable}

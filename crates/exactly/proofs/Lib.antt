@@ -8,6 +8,7 @@ pub mod Columns
 pub mod Cards
 pub mod WholeCards
 pub mod Known
+pub mod NewCards
 pub mod OpenedCards
 pub mod Order
 pub mod Cases

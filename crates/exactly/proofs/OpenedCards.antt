@@ -31,7 +31,7 @@ use Rattle.card.specs.declared.Verdict.the-variants.{Fine, Offence}
 use Rattle.opening.specs.Opening.{labelled, newCard, cardWith, openedCard}
 use Rattle.card.specs.Judging.{isCoordinate, fieldOffence, filledAt, gapOffence, columnOffence, labelOffence, offenceAt, verdictFrom, verdictAt, codeVerdict, verdictOf}
 use Rattle.opening.proofs.Laying.{card-coded, read-length, passed-length as passed-code-length}
-use Rattle.card.proofs.NewCards.{new-length, new-code, new-rest, opened-length, opened-code, opened-label}
+use Rattle.exactly.proofs.NewCards.{new-length, new-code, new-rest, opened-length, opened-code, opened-label}
 use Rattle.card.proofs.Verdicts.{fine-everywhere}
 use Rattle.card.proofs.Walked.{in-order}
 use Rattle.exactly.specs.Opened.{missing, missingAt, Missing}

@@ -23,7 +23,7 @@ use Rattle.seeking.specs.declared.Sought.{Sought}
 use Rattle.seeking.specs.declared.Sought.the-variants.{Is, Refused}
 use Rattle.seeking.specs.Card.{refusal, firstBad, underForm, coded, soughtOf}
 use Rattle.seeking.proofs.Steps.{found-there, found-coded}
-use Rattle.entry.proofs.Bytes.{none-bad, bad-none}
+use Rattle.seeking.proofs.Bytes.{none-bad, bad-none}
 use Rattle.exactly.specs.Rows.{row, given}
 use Rattle.exactly.specs.Words.{isUnknown, fieldsUnder, fieldsOn, counts, fieldAt}
 use Rattle.exactly.specs.Tables.{wayRows}

@@ -15,7 +15,7 @@ use Rattle.codes.specs.declared.Code.{Code}
 use Rattle.codes.specs.declared.Code.the-variants as code
 use Rattle.codes.specs.Codes.{codeOf}
 use Rattle.seeking.specs.Card.{badAt, firstBad}
-use Rattle.entry.proofs.Bytes.{none-bad}
+use Rattle.seeking.proofs.Bytes.{none-bad}
 use Rattle.card.specs.declared.Form.{Form}
 use Rattle.card.specs.declared.Verdict.the-variants.{Fine, Offence}
 use Rattle.card.specs.Judging.{offenceAt, verdictFrom, codeVerdict, verdictOf}

@@ -7,7 +7,7 @@ use Rattle.lists.specs.Parts.{keep, kept, upTo}
 use Rattle.forms.specs.Cards.{cardAt}
 use Rattle.broken.specs.Faults.{brokenOn, broken}
 use Rattle.breaking.specs.Kinds.{brokenFor}
-use Rattle.faults.specs.Stored.{entriesFor}
+use Rattle.entries.specs.Stored.{entriesFor}
 use Rattle.faults.specs.Listed.{columnEntries}
 
 map-keep : {A B : Type 0} (f : A → B) (b : Bool) (x : A) (l : List A) → map f (keep b x l) ≡ keep b (f x) (map f l)

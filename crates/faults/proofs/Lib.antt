@@ -1,6 +1,5 @@
 -- Laws of the check of ties.
 pub mod Columns
 pub mod Order
-pub mod Stored
 pub mod Walked
-pub mod Accepted
+pub mod Gathered

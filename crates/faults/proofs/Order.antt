@@ -23,9 +23,9 @@ use Rattle.breaking.proofs.Defining.{not-undefined, not-ambiguous, not-contradi
 use Rattle.tie_laws.proofs.Sites.{isSite, at-site}
 use Rattle.tie_laws.proofs.Complete.{listOf}
 use Rattle.tie_laws.proofs.CardByCard.{sitesOf, kept-runs, brokenSite, siteEntry, entriesOn, card-by-card}
-use Rattle.faults.specs.Stored.{joined, storedAll, Triples}
+use Rattle.entries.specs.Stored.{joined, storedAll, Triples}
 use Rattle.lists.specs.Laid.{laid}
-use Rattle.faults.proofs.Stored.{stored-laid}
+use Rattle.entries.proofs.Stored.{stored-laid}
 use Rattle.faults.specs.Listed.{columnEntries, slotEntries, cardEntries, entriesTo}
 
 flatMap-same : {A B : Type 0} (f g : A → List B) (l : List A) → ((a : A) → f a ≡ g a) → flatMap f l ≡ flatMap g l

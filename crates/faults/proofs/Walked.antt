@@ -13,12 +13,12 @@ use Rattle.lists.proofs.Entries.{entries-more}
 use Rattle.forms.specs.Cards.{cardAt, layoutOf}
 use Rattle.tying.specs.Columns.{canTie, tieColumns}
 use Rattle.broken.specs.Faults.{brokenOn, broken}
-use Rattle.breaking.specs.declared.Broken.{Broken}
+use Rattle.entries.specs.declared.Broken.{Broken}
 use Rattle.breaking.specs.Kinds.{brokenFor}
-use Rattle.faults.specs.Stored.{storedAll, entriesFor}
+use Rattle.entries.specs.Stored.{storedAll, entriesFor}
 use Rattle.faults.specs.Listed.{columnEntries, slotEntries}
 use Rattle.faults.proofs.Columns.{of-column}
-use Rattle.faults.proofs.Stored.{stored-append}
+use Rattle.entries.proofs.Stored.{stored-append}
 
 -- entries more, of whatever they are
 pub run-more : (g : ℕ → List (List ℕ)) (l₀ l l′ : List ℕ) (found m r i : ℕ)

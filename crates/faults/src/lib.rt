@@ -1,71 +1,25 @@
 // All broken ties of a header, in order, in a lent list as far as they fit.
-use breaking::Broken;
 use gathering::VESSELS;
 use header::Checked;
 use noting::CARDS;
 use tally::BUCKETS;
 use tally::ROOM;
 ghost use mathlib.Core.Path.{_≡_};
-ghost use mathlib.Core.Bool.{cond};
-ghost use mathlib.Core.List.{[], _∷_};
 ghost use Prim.Native.Nat.{_+_, _*_, _<_, _≤_};
 ghost use lib.ListN.{length};
-ghost use Rattle.lists.specs.Count.{bit};
-ghost use Rattle.lists.specs.Laid.{laid, stored};
+ghost use Rattle.lists.specs.Laid.{laid};
 ghost use Rattle.broken.specs.Faults.{faults, entries};
 ghost use Rattle.forms.specs.Cards.{cardsIn};
 ghost use Rattle.noting.specs.Noted.{Noted};
 ghost use Rattle.breaking.specs.Ready.{Ready};
 ghost use Rattle.header.specs.Refusing.{refusalOf};
 ghost use Rattle.faults.specs.Listed.{cardEntries};
-ghost use Rattle.faults.specs.Stored.{storedAll, entriesFor};
+ghost use Rattle.entries.specs.Stored.{storedAll};
 
 // The columns of a card, and the most that can carry a tie.
 const CARD: usize = 80;
 
 const SLOTS: usize = 5;
-
-// An entry, where it fits whole.
-fn put(list: &mut [u32], at: usize, card: u32, column: u32, kind: u32)
-    requires { ⌜ at ≤ 1200000 ⌝ }
-    ensures { λ _. ⌜ now (list .exit) ≡ stored (now (list .entry)) at (card ∷ column ∷ kind ∷ []) ⌝ }
-{
-    if list.len() < at + 3 {
-        return;
-    }
-    list[at] = card;
-    list[at + 1] = column;
-    list[at + 2] = kind;
-}
-
-// The next entry, where there is a fault.
-fn put_if(list: &mut [u32], found: usize, fault: bool, card: u32, column: u32, kind: u32) -> usize
-    requires { ⌜ found ≤ 400000 ⌝ }
-    ensures list { λ _. ⌜ now (list .exit)
-        ≡ cond fault (stored (now (list .entry)) (3 * found) (card ∷ column ∷ kind ∷ [])) (now (list .entry)) ⌝ }
-    ensures number { λ r. ⌜ r ≡ found + bit fault ⌝ }
-    ensures few { λ r. ⌜ r ≤ found + 1 ⌝ }
-{
-    if fault {
-        put(list, 3 * found, card, column, kind);
-        return found + 1;
-    }
-    found
-}
-
-// The entries of a column, kind by kind.
-fn put_all(list: &mut [u32], found: usize, broken: Broken, card: u32, column: u32) -> usize
-    requires { ⌜ found ≤ 300000 ⌝ }
-    ensures list { λ _. ⌜ now (list .exit) ≡ storedAll (now (list .entry)) found (entriesFor broken card column) ⌝ }
-    ensures number { λ r. ⌜ r ≡ found + length (entriesFor broken card column) ⌝ }
-    ensures few { λ r. ⌜ r ≤ found + 5 ⌝ }
-{
-    let a = put_if(list, found, broken.undefined, card, column, 1);
-    let b = put_if(list, a, broken.redefined, card, column, 2);
-    let c = put_if(list, b, broken.ambiguous, card, column, 3);
-    let d = put_if(list, c, broken.contradicted, card, column, 4);
-    put_if(list, d, broken.miscounted, card, column, 5)
-}
 
 // The faults of the card with a number, from 0, at the columns that can carry a tie.
 fn list_card(
@@ -118,7 +72,7 @@ fn list_card(
             layout,
             column,
         );
-        m = put_all(list, m, broken, (place + 1) as u32, column as u32);
+        m = entries::put_all(list, m, broken, (place + 1) as u32, column as u32);
         slot += 1;
     }
     m
@@ -193,7 +147,7 @@ pub fn list_faults(header: &[u8], list: &mut [u32]) -> usize
         &mut times,
     );
     let single = tally::once_each(&times, n);
-    gathering::count_waypoints(&numbers, n, &mut waypoints);
+    waypoints::count_waypoints(&numbers, n, &mut waypoints);
     let points = noting::points_in(header, &layouts);
     list_cards(
         list,

@@ -40,7 +40,7 @@ pub fn read_field(card: &[u8], number: usize, form: usize) -> FieldRead
     match way {
         Way::Refused(r) => FieldRead::Refused(r),
         Way::At(k, row) => {
-            let f = fields::field_in(row);
+            let f = finding::field_in(row);
             answered(f, judging::judge(card, k, f, form == 1))
         }
     }
@@ -72,7 +72,7 @@ pub fn read_text(card: &[u8], number: usize, form: usize) -> &[u8]
     let Way::At(k, row) = way else {
         return &card[..0];
     };
-    let f = fields::field_in(row);
+    let f = finding::field_in(row);
     if !holds_text(judging::judge(card, k, f, form == 1)) {
         return &card[..0];
     }

@@ -1,11 +1,7 @@
 // The fields of a layout, found by their numbers, and the parts of a field's row.
-use layout::Field;
-use layout::Found;
 use layout::Kind;
 use layout::Range;
 ghost use mathlib.Core.Path.{_≡_};
-ghost use lib.ListN.{length};
-ghost use Rattle.layout.specs.Layouts.{fieldsOf, fieldOf};
 ghost use Rattle.layout.specs.Packed.{tens, hundreds, kindOf, rangeOf, unpack};
 
 // The number whose two decimal digits are hexadecimal ones.
@@ -79,46 +75,4 @@ pub fn range_of(row: u64) -> Range
     ensures { λ r. ⌜ r ≡ unpack row .range ⌝ }
 {
     range_by(row / 0x1_0_0_00_00)
-}
-
-// The field itself.
-pub fn field_in(row: u64) -> Field
-    ensures { λ r. ⌜ r ≡ unpack row ⌝ }
-{
-    Field {
-        kind: kind_of(row),
-        first: first_of(row),
-        last: last_of(row),
-        needed: row / 0x1_00_00 % 2 == 1,
-        second: row / 0x2_00_00 % 2 == 1,
-        range: range_of(row),
-    }
-}
-
-// The field with a number, counted from 1, of a layout.
-pub fn field_of(layout: usize, number: usize) -> Found
-    ensures { λ r. ⌜ r ≡ fieldOf layout number ⌝ }
-{
-    if number == 0 {
-        return Found::Nothing;
-    }
-    let row = layout::row_of(layout, number);
-    if row == 0 {
-        return Found::Nothing;
-    }
-    Found::Is(field_in(row))
-}
-
-// The number of fields of a layout, 0 past the last layout.
-pub fn fields_in(layout: usize) -> usize
-    ensures { λ r. ⌜ r ≡ length (fieldsOf layout) ⌝ }
-{
-    let mut count = 0;
-    loop {
-        let row = layout::row_of(layout, count + 1);
-        if row == 0 {
-            return count;
-        }
-        count += 1;
-    }
 }

@@ -4,12 +4,12 @@ use tally::BUCKETS;
 use tally::ROOM;
 ghost use mathlib.Core.Path.{_≡_};
 ghost use Prim.Native.Nat.{_+_, _*_, _<_, _≤_};
-ghost use lib.ListN.{length, getD, set, replicate};
+ghost use lib.ListN.{length, replicate};
 ghost use Rattle.forms.specs.Cards.{cardsIn, layoutOf};
 ghost use Rattle.tally.specs.Chains.{room, buckets, Linked};
 ghost use Rattle.noting.specs.Noted.{Noted};
-ghost use Rattle.gathering.specs.Numbers.{tagOn, vesselIn};
-ghost use Rattle.gathering.specs.Gathered.{onColumn, onSlots, Grown, Gathered, Counted};
+ghost use Rattle.gathering.specs.Numbers.{tagOn};
+ghost use Rattle.gathering.specs.Gathered.{onColumn, onSlots, Grown, Gathered};
 
 // The columns of a card.
 const CARD: usize = 80;
@@ -17,13 +17,8 @@ const CARD: usize = 80;
 // The most columns of a card that can carry a tie.
 const SLOTS: usize = 5;
 
-// The numbers of waypoints begin here: seven times those of a class.
-const WAYPOINTS: u64 = 504403158265495552;
-
 // A count for each vessel, and one for all other numbers.
 pub const VESSELS: usize = 11;
-
-const OTHERS: usize = 10;
 
 // The vessel digit of a card.
 pub fn tag_of(card: &[u8], layout: usize) -> u8
@@ -125,39 +120,4 @@ pub fn gather(
         place += 1;
     }
     n
-}
-
-// The vessel of a number that is a waypoint's, 10 for any other number.
-fn vessel_in(number: u64) -> usize
-    ensures { λ r. ⌜ (r ≡ vesselIn number) × (r < 11) ⌝ }
-{
-    if number < WAYPOINTS {
-        return OTHERS;
-    }
-    if number >= WAYPOINTS + 10000 {
-        return OTHERS;
-    }
-    ((number - WAYPOINTS) / 1000) as usize
-}
-
-fn count_up(waypoints: &mut [usize; VESSELS], vessel: usize)
-    requires { ⌜ vessel < 11 ⌝ }
-    requires { ⌜ length (now waypoints) ≡ 11 ⌝ }
-    requires { ⌜ getD (now waypoints) vessel 0 < 10000 ⌝ }
-    ensures { λ _. ⌜ now (waypoints .exit) ≡ set (now (waypoints .entry)) vessel (getD (now (waypoints .entry)) vessel 0 + 1) ⌝ }
-{
-    waypoints[vessel] += 1;
-}
-
-// How many of n entries are waypoints of each vessel, in an array of zeros.
-pub fn count_waypoints(numbers: &[u64; ROOM], n: usize, waypoints: &mut [usize; VESSELS])
-    requires { ⌜ n ≤ room ⌝ }
-    requires { ⌜ now waypoints ≡ replicate 11 0 ⌝ }
-    ensures { λ _. ⌜ Counted (now (numbers .entry)) n (now (waypoints .exit)) ⌝ }
-{
-    let mut i: usize = 0;
-    while i < n {
-        count_up(waypoints, vessel_in(numbers[i]));
-        i += 1;
-    }
 }

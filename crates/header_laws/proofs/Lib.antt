@@ -1,6 +1,7 @@
 -- Laws of the header's refusal.
 pub mod Rows
 pub mod Exactly
+pub mod Accepted
 pub mod Opens
 pub mod Moved
 pub mod Examples

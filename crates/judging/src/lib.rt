@@ -76,7 +76,7 @@ pub fn second_by(card: &[u8], layout: usize, number: usize) -> bool
     requires { ⌜ length (now card) ≡ 80 ⌝ }
     ensures { λ r. ⌜ r ≡ secondBy (now (card .entry)) (fieldOf layout number) ⌝ }
 {
-    let found = fields::field_of(layout, number);
+    let found = finding::field_of(layout, number);
     let Found::Is(f) = found else {
         return false;
     };
@@ -88,7 +88,7 @@ fn any_second(card: &[u8], layout: usize) -> bool
     requires { ⌜ length (now card) ≡ 80 ⌝ }
     ensures { λ r. ⌜ r ≡ anySecond (now (card .entry)) (fieldsOf layout) ⌝ }
 {
-    let count = fields::fields_in(layout);
+    let count = finding::fields_in(layout);
     let mut n = 0;
     while n < count {
         n += 1;

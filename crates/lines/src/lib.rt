@@ -57,8 +57,8 @@ fn push_number(out: &mut [u8], at: usize, n: u64) -> usize
     ensures short { λ r. ⌜ (n < 10000000000 → r ≤ at + 10) ⌝ }
 {
     let mut text = [0u8; 20];
-    let k = digits::size_of(n);
-    digits::fill_digits(&mut text[..k], n);
+    let k = filling::size_of(n);
+    filling::fill_digits(&mut text[..k], n);
     push_all(out, at, &text[..k])
 }
 

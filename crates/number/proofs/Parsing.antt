@@ -1,6 +1,7 @@
 -- What each way through the reading of a number finds.
 use Prim.Native.Nat.{ℕ, zero, suc, _+_, _-_, _≤_, _<_}
 use native.Mathlib.Omega.{arith}
+use native.Mathlib.Decide.{ℕ-discrete}
 use native.Mathlib.Numerals.{add-one}
 use native.Mathlib.Nat.{add-zero}
 use mathlib.Core.Path.{_≡_, refl, sym, ap, _∙_}
@@ -19,7 +20,7 @@ use Rattle.number.specs.declared.Figures.the-variants.{Units, Not}
 use Rattle.number.specs.declared.Decimal.{Decimal}
 use Rattle.number.specs.declared.Number.{Number}
 use Rattle.number.specs.declared.Number.the-variants.{Absent, Held, Malformed, OutOfRange}
-use Rattle.number.specs.Reading.{allDigits, countedOf, unitsOf, pointOf, figuresOf, heldOf, signOf, numberOf}
+use Rattle.number.specs.Reading.{allDigits, countedOf, unitsOf, pointOf, figuresOf, heldOf, signOf, signAt, numberOf}
 use Rattle.signs.specs.Signs.{signedOf}
 
 -- nothing stands behind the digits
@@ -121,3 +122,21 @@ module _ (pointed : Bool) (s : List ℕ) (at : ℕ) (e : at ≡ blanks s) where
     number-plain h k =
         rw (first, ne-eqb (getD s at 0) 45 h, ne-eqb (getD s at 0) 43 k)
         (ap (λ l. heldOf false (figuresOf pointed l)) (rw (add-one at) (drop-cons s at 0 inside)))
+
+-- a number behind its blanks, with its sign if it has one
+pub number-signed : (pointed : Bool) (s : List ℕ) (at : ℕ) → at ≡ blanks s → at < length s
+    → heldOf (eqb (getD s at 0) 45) (figuresOf pointed (drop (at + signAt (getD s at 0)) s)) ≡ numberOf pointed s
+unfolding signAt
+number-signed pointed s at e h = elim (ℕ-discrete (getD s at 0) 45) [
+  | yes m ↦ rw m (number-minus pointed s at e h m)
+  | no m ↦ elim (ℕ-discrete (getD s at 0) 43) [
+    | yes p ↦ rw p (number-plus pointed s at e h p)
+    | no p ↦ rw (ne-eqb (getD s at 0) 45 m, ne-eqb (getD s at 0) 43 p, add-zero at) (number-plain pointed s at e h m p)
+  ]
+]
+
+-- the same by its parts
+pub number-by : (pointed : Bool) (s : List ℕ) (at k : ℕ) → at ≡ blanks s → at < length s → k ≡ signAt (getD s at 0)
+    → (f : Figures) → f ≡ figuresOf pointed (drop (at + k) s) → (n : Number) → n ≡ heldOf (eqb (getD s at 0) 45) f → n ≡ numberOf pointed s
+number-by pointed s at k e h q f a n b =
+    b ∙ ap (heldOf (eqb (getD s at 0) 45)) (a ∙ ap (λ (j : ℕ). figuresOf pointed (drop (at + j) s)) q) ∙ number-signed pointed s at e h

@@ -1,7 +1,7 @@
 -- How a number is read from its columns: blanks, at most one sign, digits, and in a decimal at most one point.
 use Prim.Native.Nat.{ℕ, _+_}
 use mathlib.Core.List.{List, [], _∷_, _++_}
-use mathlib.Core.Bool.{Bool, true, false, cond, _&&_}
+use mathlib.Core.Bool.{Bool, true, false, cond, _&&_, _||_}
 use lib.ListN.{length}
 use lib.Dec.{eqb, ltb}
 use Rattle.digits.specs.Figures.{unpadded, leading, behind, valueFrom, limit, capped}
@@ -43,6 +43,10 @@ signOf pointed [] = Absent
 signOf pointed (b ∷ t) =
     cond (eqb b 45) (heldOf true (figuresOf pointed t))
     (cond (eqb b 43) (heldOf false (figuresOf pointed t)) (heldOf false (figuresOf pointed (b ∷ t))))
+
+-- the columns that a byte takes as a sign
+unfoldable pub signAt : ℕ → ℕ
+signAt b = cond (eqb b 43 || eqb b 45) 1 0
 
 -- what stands in the columns of a number; a point may stand in a decimal (N) and not in a whole number (I)
 unfoldable pub numberOf : Bool → List ℕ → Number

@@ -1,6 +1,7 @@
 // Whole numbers and decimals in columns of any width: read to the last digit.
 ghost use mathlib.Core.Path.{_≡_};
-ghost use Rattle.number.specs.Reading.{countedOf, figuresOf, heldOf, numberOf};
+ghost use Prim.Native.Nat.{_≤_};
+ghost use Rattle.number.specs.Reading.{countedOf, figuresOf, heldOf, signAt, numberOf};
 
 const PLUS: u8 = 43;
 
@@ -81,6 +82,16 @@ fn held(minus: bool, figures: Figures) -> Number
     }
 }
 
+// The columns that a byte takes as a sign.
+pub fn sign_at(b: u8) -> usize
+    ensures { λ r. ⌜ (r ≡ signAt b) × (r ≤ 1) ⌝ }
+{
+    if (b == PLUS) | (b == MINUS) {
+        return 1;
+    }
+    0
+}
+
 // Reads the number that stands right adjusted in s; pointed says whether a point may stand in it.
 pub fn read_number(s: &[u8], pointed: bool) -> Number
     ensures { λ r. ⌜ r ≡ numberOf pointed (now (s .entry)) ⌝ }
@@ -90,11 +101,6 @@ pub fn read_number(s: &[u8], pointed: bool) -> Number
         return Number::Absent;
     }
     let b = s[at];
-    if b == MINUS {
-        return held(true, figures_in(&s[at + 1..], pointed));
-    }
-    if b == PLUS {
-        return held(false, figures_in(&s[at + 1..], pointed));
-    }
-    held(false, figures_in(&s[at..], pointed))
+    let from = at + sign_at(b);
+    held(b == MINUS, figures_in(&s[from..], pointed))
 }

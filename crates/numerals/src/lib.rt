@@ -25,9 +25,9 @@ fn write_pointed(columns: &mut [u8], n: u64, k: usize)
     requires { ⌜ k < length (now columns) ⌝ }
     ensures { λ _. ⌜ now (columns .exit) ≡ pointed k (length (now (columns .entry)) - (k + 1)) n ⌝ }
 {
-    let rest = digits::fill_digits(&mut columns[k + 1..], n);
+    let rest = filling::fill_digits(&mut columns[k + 1..], n);
     columns[k] = POINT;
-    digits::fill_digits(&mut columns[..k], rest);
+    filling::fill_digits(&mut columns[..k], rest);
 }
 
 // Fills the columns with the digits of n, the last p of them behind a point; true if the point finds room.
@@ -36,7 +36,7 @@ pub fn write_plain(columns: &mut [u8], n: u64, p: usize) -> bool
     ensures columns { λ _. ⌜ now (columns .exit) ≡ written (plainIn (length (now (columns .entry))) p n) (now (columns .entry)) ⌝ }
 {
     if p == 0 {
-        digits::fill_digits(columns, n);
+        filling::fill_digits(columns, n);
         return true;
     }
     if columns.len() <= p {
@@ -94,7 +94,7 @@ fn spell(columns: &mut [u8], minus: bool, n: u64, p: usize, k: usize) -> bool
         return false;
     }
     let first = columns.len() - w;
-    digits::fill_blanks(&mut columns[..first]);
+    filling::fill_blanks(&mut columns[..first]);
     write_signed(&mut columns[first..], minus, n, p, k);
     true
 }
@@ -105,7 +105,7 @@ fn write_units(columns: &mut [u8], minus: bool, n: u64, p: usize) -> bool
     ensures answer { λ r. ⌜ r ≡ fits (unitsIn (length (now (columns .entry))) minus p n) ⌝ }
     ensures columns { λ _. ⌜ now (columns .exit) ≡ written (unitsIn (length (now (columns .entry))) minus p n) (now (columns .entry)) ⌝ }
 {
-    let size = digits::size_of(n);
+    let size = filling::size_of(n);
     let full = more(size, p + 1) - p;
     if spell(columns, minus, n, p, full) {
         return true;

@@ -69,7 +69,7 @@ fn lay_passed(card: &mut [u8], code: &[u8])
     ensures { λ _. ⌜ now (card .exit) ≡ newCard (now (code .entry)) [] ⌝ }
 {
     lay_code(card, code);
-    digits::fill_blanks(&mut card[CODE..]);
+    filling::fill_blanks(&mut card[CODE..]);
 }
 
 // Opens a card: its code, the label of a read code, and blanks, whatever stood there.

@@ -160,7 +160,7 @@ pub extern "C" fn p294_definitions(
 {
     let key = offers::key_of(kind, a, b);
     let bytes = offers::key_text(kind, text);
-    let reply = answers::of_definitions(ties::definitions_of(header, class, key, bytes));
+    let reply = answers::of_definitions(lookups::definitions_of(header, class, key, bytes));
     give(numbers, reply)
 }
 
@@ -182,6 +182,6 @@ pub extern "C" fn p294_place(
 {
     let wanted = offers::key_of(kind, a, b);
     let spelled = offers::key_text(kind, text);
-    let reply = answers::of_place(ties::place_of(header, class, wanted, spelled));
+    let reply = answers::of_place(lookups::place_of(header, class, wanted, spelled));
     give(numbers, reply)
 }

@@ -4,11 +4,12 @@ ghost use mathlib.Core.List.{[], _∷_};
 ghost use Prim.Native.Nat.{_≤_};
 ghost use lib.ListN.{length};
 ghost use Rattle.text.specs.Texts.{textOf};
-ghost use Rattle.packing.specs.Packing.{isWhole, bitsIn, packed, natural, wholeOffered, pairOffered, textOffered};
+ghost use Rattle.packing.specs.Packing.{isWhole, bitsIn, packed, wholeOffered};
 
-const TEXTS: u64 = 4;
+// The classes whose keys are texts and pairs.
+pub const TEXTS: u64 = 4;
 
-const PAIRS: u64 = 7;
+pub const PAIRS: u64 = 7;
 
 const LAST_CLASS: u64 = 9;
 
@@ -96,40 +97,4 @@ pub fn packed_columns(columns: &[u8]) -> u64
         return NONE;
     }
     TEXTS * ROOM + bits
-}
-
-// A whole number that is offered as a key of a class.
-pub fn packed_whole(class: u64, number: i64) -> u64
-    ensures { λ r. ⌜ r ≡ packed class (wholeOffered class (natural number)) ⌝ }
-{
-    if signs::below_zero(number) {
-        return NONE;
-    }
-    packed_number(class, signs::magnitude(number))
-}
-
-// A pair that is offered as a key of a class.
-pub fn packed_pair(class: u64, first: i64, second: i64) -> u64
-    ensures { λ r. ⌜ r ≡ packed class (pairOffered class (natural first) (natural second)) ⌝ }
-{
-    if class != PAIRS {
-        return NONE;
-    }
-    if signs::below_zero(first) {
-        return NONE;
-    }
-    if signs::below_zero(second) {
-        return NONE;
-    }
-    packed_both(signs::magnitude(first), signs::magnitude(second))
-}
-
-// A text that is offered as a key of a class.
-pub fn packed_text(class: u64, text: &[u8]) -> u64
-    ensures { λ r. ⌜ r ≡ packed class (textOffered class (now (text .entry))) ⌝ }
-{
-    if class != TEXTS {
-        return NONE;
-    }
-    packed_columns(text)
 }

@@ -28,7 +28,7 @@ use Rattle.tie_laws.proofs.Questions.{
   place-of-reference,
   place-of-definition,
 }
-use Rattle.faults.proofs.Accepted.{printed}
+use Rattle.header_laws.proofs.Accepted.{printed}
 use Rattle.asking.proofs.Defined.{definitions-counted, none-counted}
 use Rattle.questions.specs.declared.Key.{Key}
 use Rattle.questions.specs.declared.Definitions.{Definitions}

@@ -12,7 +12,7 @@ use Rattle.header.specs.declared.Checked.the-variants as checked
 use Rattle.header.specs.Refusing.{refusalOf}
 use Rattle.packing.specs.Packing.{packed, natural, wholeOffered, pairOffered, textOffered}
 use Rattle.broken.specs.Definitions.{columnOf, definitionsOf, placeOf}
-use Rattle.faults.proofs.Accepted.{printed}
+use Rattle.header_laws.proofs.Accepted.{printed}
 use Rattle.asking.specs.Borne.{timesIn, firstIn}
 use Rattle.asking.proofs.Defined.{definitions-counted, first-defined}
 use Rattle.questions.specs.declared.Key.{Key}

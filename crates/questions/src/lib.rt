@@ -55,9 +55,9 @@ fn number_of(class: u64, key: Key, text: &[u8]) -> u64
     ensures { λ r. ⌜ r ≡ packed class (keyOffered class key (now (text .entry))) ⌝ }
 {
     match key {
-        Key::Whole(number) => packing::packed_whole(class, number),
-        Key::Pair(first, second) => packing::packed_pair(class, first, second),
-        Key::Text => packing::packed_text(class, text),
+        Key::Whole(number) => keying::packed_whole(class, number),
+        Key::Pair(first, second) => keying::packed_pair(class, first, second),
+        Key::Text => keying::packed_text(class, text),
     }
 }
 

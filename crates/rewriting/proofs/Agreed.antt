@@ -31,7 +31,7 @@ use Rattle.field.specs.Reading.{fieldReading, holdsText, fieldText}
 use Rattle.seeking.proofs.Steps.{found-there, found-coded}
 use Rattle.field.proofs.Steps.{text-is}
 use Rattle.entry.specs.Putting.{placed, width, placedIn, isAbsent, within, neededAfter, byEntry, puttingOf, puttingTextOf}
-use Rattle.entry.proofs.Bytes.{bad-none, rest-printable}
+use Rattle.seeking.proofs.Bytes.{bad-none, rest-printable}
 use Rattle.entry.proofs.Steps.{columns-wide, field-fits, text-is as text-put-is}
 use Rattle.rewriting.proofs.Need.{blank-need}
 use Rattle.rewriting.proofs.Answers.{spellingIn, Read, was-read, put-so}

@@ -23,14 +23,22 @@ use Rattle.seeking.specs.declared.Way.the-variants as way
 abbrev pub refusal : ℕ → ℕ → ℕ → Refusal
 refusal n card column = record { number = n; card = card; column = column }
 
--- a byte outside 32 to 126
-abbrev pub badAt : List ℕ → ℕ → Bool
-badAt s i = not (leb 32 (getD s i 0) && leb (getD s i 0) 126)
+-- a byte from 32 to 126
+abbrev pub goodAt : List ℕ → ℕ → Bool
+goodAt s i = leb 32 (getD s i 0) && leb (getD s i 0) 126
 
--- the bytes up to a place are all within
+-- a byte outside
+abbrev pub badAt : List ℕ → ℕ → Bool
+badAt s i = not (goodAt s i)
+
+-- in each of a card's five rows of sixteen bytes those up to a place are all within
 unfoldable pub goodTo : List ℕ → ℕ → Bool
 goodTo s zero = true
-goodTo s (suc i) = goodTo s i && (leb 32 (getD s i 0) && leb (getD s i 0) 126)
+goodTo s (suc i) = goodTo s i && (((goodAt s i && goodAt s (i + 16)) && (goodAt s (i + 32) && goodAt s (i + 48))) && goodAt s (i + 64))
+
+-- a whole card with none outside
+unfoldable pub goodCard : List ℕ → Bool
+goodCard s = eqb (length s) 80 && goodTo s 16
 
 -- the place, from 0, of the first such byte, or the length
 unfoldable pub firstBad : List ℕ → ℕ

@@ -2,9 +2,10 @@
 use codes::Code;
 use layout::Field;
 ghost use mathlib.Core.Path.{_≡_};
+ghost use Prim.Native.Nat.{_<_};
 ghost use lib.ListN.{length};
 ghost use Rattle.layout.specs.Layouts.{fieldOf};
-ghost use Rattle.seeking.specs.Card.{refusal, goodTo, firstBad, underForm, soughtOf, wayFor};
+ghost use Rattle.seeking.specs.Card.{refusal, goodAt, goodCard, firstBad, underForm, soughtOf, wayFor};
 
 const CARD: usize = 80;
 
@@ -40,15 +41,29 @@ fn refused(number: usize, card: usize, column: usize) -> Way
     })
 }
 
-// Whether all bytes are printable: no byte ends the loop early, so that it takes many bytes at a time.
-fn all_good(s: &[u8]) -> bool
-    ensures { λ r. ⌜ r ≡ goodTo (now (s .entry)) (length (now (s .entry))) ⌝ }
+// Whether a byte is printable.
+fn good_at(s: &[u8], i: usize) -> bool
+    requires { ⌜ i < length (now s) ⌝ }
+    ensures { λ r. ⌜ r ≡ goodAt (now (s .entry)) i ⌝ }
 {
+    let b = s[i];
+    (32 <= b) & (b <= 126)
+}
+
+// Whether a card is whole and all its bytes printable, looked at in five rows of sixteen: no byte ends the loop early, so that
+// it takes a row at a time.
+fn all_good(s: &[u8]) -> bool
+    ensures { λ r. ⌜ r ≡ goodCard (now (s .entry)) ⌝ }
+{
+    if s.len() != CARD {
+        return false;
+    }
     let mut good = true;
     let mut i = 0;
-    while i < s.len() {
-        let b = s[i];
-        good = good & ((32 <= b) & (b <= 126));
+    while i < 16 {
+        let first = good_at(s, i) & good_at(s, i + 16);
+        let next = good_at(s, i + 32) & good_at(s, i + 48);
+        good = good & (first & next & good_at(s, i + 64));
         i += 1;
     }
     good
@@ -59,7 +74,7 @@ pub fn first_bad(s: &[u8]) -> usize
     ensures { λ r. ⌜ r ≡ firstBad (now (s .entry)) ⌝ }
 {
     if all_good(s) {
-        return s.len();
+        return CARD;
     }
     let mut i = 0;
     while i < s.len() {

@@ -1,8 +1,7 @@
 -- From what stands in the columns to the number that tells it.
 use Prim.Native.Nat.{ℕ, zero, suc, _+_, _≤_, _<_}
 use native.Mathlib.Omega.{arith}
-use native.Mathlib.Decide.{ℕ-discrete, decLt}
-use native.Mathlib.Nat.{add-zero}
+use native.Mathlib.Decide.{decLt}
 use mathlib.Core.Path.{_≡_, refl, sym, ap, _∙_}
 use mathlib.Core.List.{List}
 use mathlib.Core.Bool.{Bool, true, false, cond, not, _&&_}
@@ -14,22 +13,10 @@ use Rattle.signs.specs.Signs.{signedOf}
 use Rattle.digits.specs.Figures.{blanks, limit}
 use Rattle.number.specs.declared.Figures.{Figures}
 use Rattle.number.specs.declared.Figures.the-variants.{Units, Not}
-use Rattle.number.specs.Reading.{figuresOf, heldOf, numberOf}
-use Rattle.number.proofs.Parsing.{number-minus, number-plus, number-plain}
-use Rattle.shapes.specs.Shapes.{signAt, isUnits, markIn, sizeBy, shapeOf, sized, sizeOf}
+use Rattle.number.specs.Reading.{figuresOf, heldOf, signAt, numberOf}
+use Rattle.number.proofs.Parsing.{number-signed}
+use Rattle.shapes.specs.Shapes.{isUnits, markIn, sizeBy, shapeOf, sized, sizeOf}
 use Rattle.shapes.proofs.Small.{Small, figures-small}
-
--- a number behind its blanks, with its sign if it has one
-pub number-signed : (pointed : Bool) (s : List ℕ) (at : ℕ) → at ≡ blanks s → at < length s
-    → heldOf (eqb (getD s at 0) 45) (figuresOf pointed (drop (at + signAt (getD s at 0)) s)) ≡ numberOf pointed s
-unfolding signAt
-number-signed pointed s at e h = elim (ℕ-discrete (getD s at 0) 45) [
-  | yes m ↦ rw m (number-minus pointed s at e h m)
-  | no m ↦ elim (ℕ-discrete (getD s at 0) 43) [
-    | yes p ↦ rw p (number-plus pointed s at e h p)
-    | no p ↦ rw (ne-eqb (getD s at 0) 45 m, ne-eqb (getD s at 0) 43 p, add-zero at) (number-plain pointed s at e h m p)
-  ]
-]
 
 -- its shape
 pub shape-held : (minus : Bool) (f : Figures) → Small f → cond (isUnits f) 0 9 ≡ shapeOf (heldOf minus f)

@@ -1,6 +1,6 @@
 -- What the columns of a number hold, told by one number.
 use Prim.Native.Nat.{ℕ, _+_}
-use mathlib.Core.Bool.{Bool, true, false, cond, not, _&&_, _||_}
+use mathlib.Core.Bool.{Bool, true, false, cond, not, _&&_}
 use lib.Dec.{eqb, ltb}
 use lib.IntN.{ℤ, pos, negsuc}
 use Rattle.digits.specs.Figures.{limit}
@@ -27,10 +27,6 @@ sizeOf Absent = 0
 sizeOf (Held d) = sized (d .units)
 sizeOf Malformed = 1
 sizeOf OutOfRange = 2
-
--- the columns that a byte takes as a sign
-unfoldable pub signAt : ℕ → ℕ
-signAt b = cond (eqb b 43 || eqb b 45) 1 0
 
 -- digits that are a number, and that number counted from 1
 abbrev pub isUnits : Figures → Bool

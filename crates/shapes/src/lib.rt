@@ -5,9 +5,7 @@ ghost use Prim.Native.Nat.{_+_, _≤_};
 ghost use lib.ListN.{length};
 ghost use Rattle.digits.specs.Figures.{leading, limit};
 ghost use Rattle.number.specs.Reading.{figuresOf, numberOf};
-ghost use Rattle.shapes.specs.Shapes.{signAt, isUnits, markIn, sizeBy, shapeOf, sizeOf};
-
-const PLUS: u8 = 43;
+ghost use Rattle.shapes.specs.Shapes.{isUnits, markIn, sizeBy, shapeOf, sizeOf};
 
 const MINUS: u8 = 45;
 
@@ -93,16 +91,6 @@ fn mark_of(t: &[u8]) -> u64
     n + 1
 }
 
-// The columns that a byte takes as a sign.
-fn sign_at(b: u8) -> usize
-    ensures { λ r. ⌜ (r ≡ signAt b) × (r ≤ 1) ⌝ }
-{
-    if (b == PLUS) | (b == MINUS) {
-        return 1;
-    }
-    0
-}
-
 // A size by the number counted from 1, and whether a minus stands before it.
 fn size_by(minus: bool, mark: u64) -> u64
     ensures { λ r. ⌜ (r ≡ sizeBy minus mark) × (r ≤ limit + 3) ⌝ }
@@ -129,7 +117,7 @@ pub fn decimal_shape(s: &[u8]) -> usize
     if at == s.len() {
         return MISSING;
     }
-    let from = at + sign_at(s[at]);
+    let from = at + number::sign_at(s[at]);
     if is_decimal(&s[from..]) {
         return FINE;
     }
@@ -147,6 +135,6 @@ pub fn whole_size(s: &[u8]) -> u64
         return BLANK;
     }
     let b = s[at];
-    let from = at + sign_at(b);
+    let from = at + number::sign_at(b);
     size_by(b == MINUS, mark_of(&s[from..]))
 }

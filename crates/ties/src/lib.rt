@@ -1,36 +1,17 @@
-// The ties between the cards of a header: the list of those that are broken, how often a key is defined, and where.
+// The ties between the cards of a header: the list of those that are broken.
 use header::Checked;
-use questions::Definitions;
-use questions::Key;
-use questions::Place;
 use seeking::Refusal;
 ghost use mathlib.Core.Path.{_≡_};
-ghost use mathlib.Core.List.{[]};
 ghost use lib.ListN.{length};
 ghost use Rattle.header.specs.Refusing.{refusalOf};
 ghost use Rattle.broken.specs.Faults.{faults, entries};
 ghost use Rattle.ties.specs.Answer.{answerFor, listFor};
-ghost use Rattle.questions.specs.Questions.{definitionsFor, placeFor, streamerClass, nodeClass, sensorClass};
-
-// The classes of their keys.
-const STREAMERS: u64 = 2;
-
-const NODES: u64 = 3;
-
-const SENSORS: u64 = 5;
 
 // The answer of the check: the number of all faults, or the header's refusal.
 pub enum Ties {
     Found(usize),
     Refused(Refusal),
 }
-
-// The numbers of streamers, nodes and motion sensors, each with questions of its own.
-pub struct Streamer(pub i64);
-
-pub struct Node(pub i64);
-
-pub struct Sensor(pub i64);
 
 // The number of all faults, with their entries in the list as far as they fit; or the header's refusal, and the list as it was.
 pub fn check(header: &[u8], list: &mut [u32]) -> Ties
@@ -43,82 +24,4 @@ pub fn check(header: &[u8], list: &mut [u32]) -> Ties
         Checked::Accepted => Ties::Found(faults::list_faults(header, list)),
         Checked::Refused(refusal) => Ties::Refused(refusal),
     }
-}
-
-// How often a key of a class is defined: the header's refusal first, then 13 where there is no such class.
-pub fn definitions_of(header: &[u8], class: u64, key: Key, text: &[u8]) -> Definitions
-    ensures { λ r. ⌜ r ≡ definitionsFor (now (header .entry)) class key (now (text .entry)) ⌝ }
-{
-    let checked = header::check(header);
-    match checked {
-        Checked::Accepted => questions::counted(header, class, key, text),
-        Checked::Refused(refusal) => Definitions::Refused(refusal),
-    }
-}
-
-// Where its only definition stands, with the same refusals.
-pub fn place_of(header: &[u8], class: u64, key: Key, text: &[u8]) -> Place
-    ensures { λ r. ⌜ r ≡ placeFor (now (header .entry)) class key (now (text .entry)) ⌝ }
-{
-    let checked = header::check(header);
-    match checked {
-        Checked::Accepted => questions::located(header, class, key, text),
-        Checked::Refused(refusal) => Place::Refused(refusal),
-    }
-}
-
-// How often a key that is one whole number is defined; no text goes with it.
-fn times_defined(header: &[u8], class: u64, number: i64) -> Definitions
-    ensures { λ r. ⌜ r ≡ definitionsFor (now (header .entry)) class (Key.Whole number) [] ⌝ }
-{
-    definitions_of(header, class, Key::Whole(number), &header[..0])
-}
-
-// Where its only definition stands.
-fn only_place(header: &[u8], class: u64, number: i64) -> Place
-    ensures { λ r. ⌜ r ≡ placeFor (now (header .entry)) class (Key.Whole number) [] ⌝ }
-{
-    place_of(header, class, Key::Whole(number), &header[..0])
-}
-
-// How often a streamer is defined.
-pub fn streamer_definitions(header: &[u8], streamer: Streamer) -> Definitions
-    ensures { λ r. ⌜ r ≡ definitionsFor (now (header .entry)) streamerClass (Key.Whole (streamer .0)) [] ⌝ }
-{
-    times_defined(header, STREAMERS, streamer.0)
-}
-
-// Where its only definition stands.
-pub fn streamer_place(header: &[u8], streamer: Streamer) -> Place
-    ensures { λ r. ⌜ r ≡ placeFor (now (header .entry)) streamerClass (Key.Whole (streamer .0)) [] ⌝ }
-{
-    only_place(header, STREAMERS, streamer.0)
-}
-
-// How often a node is defined.
-pub fn node_definitions(header: &[u8], node: Node) -> Definitions
-    ensures { λ r. ⌜ r ≡ definitionsFor (now (header .entry)) nodeClass (Key.Whole (node .0)) [] ⌝ }
-{
-    times_defined(header, NODES, node.0)
-}
-
-// Where its only definition stands.
-pub fn node_place(header: &[u8], node: Node) -> Place
-    ensures { λ r. ⌜ r ≡ placeFor (now (header .entry)) nodeClass (Key.Whole (node .0)) [] ⌝ }
-{
-    only_place(header, NODES, node.0)
-}
-
-// How often a motion sensor is defined.
-pub fn sensor_definitions(header: &[u8], sensor: Sensor) -> Definitions
-    ensures { λ r. ⌜ r ≡ definitionsFor (now (header .entry)) sensorClass (Key.Whole (sensor .0)) [] ⌝ }
-{
-    times_defined(header, SENSORS, sensor.0)
-}
-
-// Where its only definition stands.
-pub fn sensor_place(header: &[u8], sensor: Sensor) -> Place
-    ensures { λ r. ⌜ r ≡ placeFor (now (header .entry)) sensorClass (Key.Whole (sensor .0)) [] ⌝ }
-{
-    only_place(header, SENSORS, sensor.0)
 }

@@ -1,6 +1,6 @@
 // Answers a script that makes headers and asks for their broken ties and their keys.
+mod keyed;
 mod lists;
-mod lookups;
 
 use script::page;
 use ties::Ties;
@@ -15,7 +15,7 @@ fn push_ties(out: &mut [u8], n: usize, t: Ties) -> usize {
             let named = page::push_all(out, n, b"broken");
             page::push_next(out, named, k as u64)
         }
-        Ties::Refused(r) => lookups::push_refused(out, n, r),
+        Ties::Refused(r) => keyed::push_refused(out, n, r),
     }
 }
 
@@ -56,10 +56,10 @@ fn answer(line: &[u8], header: &[u8], list: &mut [u32], out: &mut [u8], n: usize
         return check(args, header, list, false, out, n);
     }
     if script::begins(line, b"count ") {
-        return lookups::count(args, header, out, n);
+        return keyed::count(args, header, out, n);
     }
     if script::begins(line, b"where ") {
-        return lookups::locate(args, header, out, n);
+        return keyed::locate(args, header, out, n);
     }
     if script::begins(line, b"keep ") | script::begins(line, b"add ") {
         return page::push_number(out, n, header.len() as u64);

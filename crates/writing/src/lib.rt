@@ -15,7 +15,7 @@ fn blank(columns: &mut [u8]) -> Written
     ensures answer { λ r. ⌜ r ≡ answerOf (blanked (length (now (columns .entry)))) ⌝ }
     ensures columns { λ _. ⌜ now (columns .exit) ≡ enteredIn (blanked (length (now (columns .entry)))) (now (columns .entry)) ⌝ }
 {
-    digits::fill_blanks(columns);
+    filling::fill_blanks(columns);
     Written::Done
 }
 
@@ -131,8 +131,8 @@ pub fn write_text(columns: &mut [u8], spelling: Spelling, text: &[u8]) -> Writte
     ensures columns { λ _. ⌜ now (columns .exit) ≡ enteredIn (textEntryOf spelling (length (now (columns .entry))) (now (text .entry))) (now (columns .entry)) ⌝ }
 {
     match spelling {
-        Spelling::Text => text::write_text(columns, text, false),
-        Spelling::Comment => text::write_text(columns, text, true),
+        Spelling::Text => lettering::write_text(columns, text, false),
+        Spelling::Comment => lettering::write_text(columns, text, true),
         _ => Written::OtherKind,
     }
 }

@@ -1,4 +1,4 @@
--- `layout::byte_fits` meets its contract: the wild card or the byte itself picks the test.
+-- `codes::byte_fits` meets its contract: the wild card or the byte itself picks the test.
 use Rattle.codes.specs.Codes.{byteFits}
 use borrow.Author.Tests.{ne-eqb}
 use Rattle.codes.proofs.byte_fits.Statement.{statement}

@@ -14,10 +14,10 @@ use Rattle.forms.proofs.Steps.{card-part, card-ends}
 use Rattle.tying.specs.Columns.{tieColumns}
 use Rattle.tying.proofs.Tied.{none-behind}
 use Rattle.breaking.specs.Kinds.{brokenFor}
-use Rattle.faults.specs.Stored.{storedAll}
+use Rattle.entries.specs.Stored.{storedAll}
 use Rattle.faults.specs.Listed.{slotEntries, cardEntries}
 use Rattle.faults.proofs.Order.{no-slot}
-use Rattle.faults.proofs.Stored.{length-stored-all}
+use Rattle.entries.proofs.Stored.{length-stored-all}
 use Rattle.faults.proofs.Walked.{run-more, run-rest, slot-gives, column-below}
 use Rattle.faults.proofs.list_card.Statement.{statement}
 use Rattle.faults.proofs.list_card.Tie as tie

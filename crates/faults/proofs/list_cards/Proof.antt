@@ -9,9 +9,9 @@ use borrow.Author.Needs.{needs}
 use Rattle.lists.specs.Parts.{upTo}
 use Rattle.forms.specs.Cards.{cardsIn}
 use Rattle.broken.specs.Faults.{faults}
-use Rattle.faults.specs.Stored.{storedAll}
+use Rattle.entries.specs.Stored.{storedAll}
 use Rattle.faults.specs.Listed.{cardEntries, entriesTo}
-use Rattle.faults.proofs.Stored.{length-stored-all}
+use Rattle.entries.proofs.Stored.{length-stored-all}
 use Rattle.faults.proofs.Order.{all-laid, all-found}
 use Rattle.faults.proofs.Walked.{run-more}
 use Rattle.faults.proofs.list_cards.Statement.{statement}

@@ -1,7 +1,8 @@
 -- `faults::list_faults` meets its contract.
 use mathlib.Core.Path.{refl}
 use denote.Ref.{now}
-use Rattle.faults.proofs.Accepted.{few-cards, ready}
+use Rattle.header_laws.proofs.Accepted.{few-cards}
+use Rattle.faults.proofs.Gathered.{ready}
 use borrow.Author.Needs.{needs}
 use Rattle.faults.proofs.list_faults.Statement.{statement}
 use Rattle.faults.proofs.list_faults.Tie as tie

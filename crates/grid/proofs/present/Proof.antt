@@ -1,4 +1,4 @@
--- `position::present` meets its contract.
+-- `grid::present` meets its contract.
 use mathlib.Core.Path.{sym, ap}
 use Rattle.grid.specs.Grid.{presentOf}
 use borrow.Author.Needs.{needs}

@@ -1,4 +1,4 @@
--- `position::read_grid` meets its contract.
+-- `grid::read_grid` meets its contract.
 use mathlib.Core.Path.{sym, _∙_}
 use lib.Seq.{length-take-le}
 use Rattle.grid.proofs.Reading.{grid-absent, grid-other, grid-number}

@@ -1,4 +1,4 @@
--- `position::write_grid` meets its contract.
+-- `grid::write_grid` meets its contract.
 use mathlib.Core.Path.{refl, sym, _∙_}
 use borrow.Author.Tests.{not-true, not-false}
 use denote.Ref.{now}

@@ -14,8 +14,8 @@ use Rattle.lines.proofs.push_number.Tie as tie
 use Rattle.lines.proofs.push_number.Reads as reads
 use Rattle.lines.proofs.push_number.Lts as lts
 use Rattle.lines.proofs.push_all.Reads as push-all-reads
-use Rattle.digits.proofs.fill_digits.Reads as fill-digits-reads
-use Rattle.digits.proofs.size_of.Reads as size-of-reads
+use Rattle.filling.proofs.fill_digits.Reads as fill-digits-reads
+use Rattle.filling.proofs.size_of.Reads as size-of-reads
 
 -- src/lib.rt:60:9
 size-of-requires : tie.Need-size-of-requires

@@ -12,7 +12,7 @@ use Rattle.numerals.proofs.spell.Statement.{statement}
 use Rattle.numerals.proofs.spell.Tie as tie
 use Rattle.numerals.proofs.spell.Reads as reads
 use Rattle.numerals.proofs.spell.Lts as lts
-use Rattle.digits.proofs.fill_blanks.Reads as fill-blanks-reads
+use Rattle.filling.proofs.fill_blanks.Reads as fill-blanks-reads
 use Rattle.numerals.proofs.point_columns.Reads as point-columns-reads
 use Rattle.numerals.proofs.sign_columns.Reads as sign-columns-reads
 use Rattle.numerals.proofs.write_signed.Reads as write-signed-reads

@@ -7,7 +7,7 @@ use Rattle.numerals.proofs.write_plain.Statement.{statement}
 use Rattle.numerals.proofs.write_plain.Tie as tie
 use Rattle.numerals.proofs.write_plain.Reads as reads
 use Rattle.numerals.proofs.write_plain.Lts as lts
-use Rattle.digits.proofs.fill_digits.Reads as fill-digits-reads
+use Rattle.filling.proofs.fill_digits.Reads as fill-digits-reads
 use Rattle.numerals.proofs.write_pointed.Reads as write-pointed-reads
 
 -- src/lib.rt:162:9

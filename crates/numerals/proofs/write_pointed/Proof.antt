@@ -7,7 +7,7 @@ use Rattle.numerals.proofs.write_pointed.Statement.{statement}
 use Rattle.numerals.proofs.write_pointed.Tie as tie
 use Rattle.numerals.proofs.write_pointed.Reads as reads
 use Rattle.numerals.proofs.write_pointed.Lts as lts
-use Rattle.digits.proofs.fill_digits.Reads as fill-digits-reads
+use Rattle.filling.proofs.fill_digits.Reads as fill-digits-reads
 
 -- src/lib.rt:151:49
 add-fill-digits : tie.Need-add-fill-digits

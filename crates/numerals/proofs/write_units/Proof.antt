@@ -9,7 +9,7 @@ use Rattle.numerals.proofs.write_units.Statement.{statement}
 use Rattle.numerals.proofs.write_units.Tie as tie
 use Rattle.numerals.proofs.write_units.Reads as reads
 use Rattle.numerals.proofs.write_units.Lts as lts
-use Rattle.digits.proofs.size_of.Reads as size-of-reads
+use Rattle.filling.proofs.size_of.Reads as size-of-reads
 use Rattle.numerals.proofs.more.Reads as more-reads
 use Rattle.numerals.proofs.spell.Reads as spell-reads
 

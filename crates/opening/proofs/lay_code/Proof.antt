@@ -1,4 +1,4 @@
--- `card::lay_code` meets its contract.
+-- `opening::lay_code` meets its contract.
 use Prim.Native.Nat.{_≤_, _-_}
 use mathlib.Core.Path.{_≡_, _∙_, refl, ap}
 use mathlib.Core.List.{_++_}

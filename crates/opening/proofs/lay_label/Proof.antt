@@ -1,4 +1,4 @@
--- `card::lay_label` meets its contract.
+-- `opening::lay_label` meets its contract.
 use Prim.Native.Nat.{ℕ, _≤_, _-_}
 use mathlib.Core.Path.{_≡_, _∙_, refl, ap, ap₂}
 use mathlib.Core.List.{List, _++_, append-nil}

@@ -1,4 +1,4 @@
--- `card::lay_passed` meets its contract.
+-- `opening::lay_passed` meets its contract.
 use denote.Ref.{now}
 use mathlib.Core.List.{[]}
 use mathlib.Core.Path.{sym, _∙_}

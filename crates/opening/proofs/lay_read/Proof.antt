@@ -1,4 +1,4 @@
--- `card::lay_read` meets its contract.
+-- `opening::lay_read` meets its contract.
 use denote.Ref.{now}
 use Rattle.layout.specs.Layouts.{labelOf}
 use Rattle.digits.proofs.Parts.{rest-length}

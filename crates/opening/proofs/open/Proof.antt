@@ -1,4 +1,4 @@
--- `card::open` meets its contract.
+-- `opening::open` meets its contract.
 use denote.Ref.{now}
 use mathlib.Core.Path.{sym, _∙_}
 use Rattle.opening.specs.Opening.{codeAnswer, cardWith}

@@ -16,7 +16,7 @@ use Rattle.p294.proofs.give.Reads as give-reads
 use Rattle.answers.proofs.of_definitions.Reads as of-definitions-reads
 use Rattle.offers.proofs.key_of.Reads as key-of-reads
 use Rattle.offers.proofs.key_text.Reads as key-text-reads
-use Rattle.ties.proofs.definitions_of.Reads as definitions-of-reads
+use Rattle.lookups.proofs.definitions_of.Reads as definitions-of-reads
 
 -- src/lib.rt:133:9
 key-of-requires : tie.Need-key-of-requires

@@ -16,7 +16,7 @@ use Rattle.p294.proofs.give.Reads as give-reads
 use Rattle.answers.proofs.of_place.Reads as of-place-reads
 use Rattle.offers.proofs.key_of.Reads as key-of-reads
 use Rattle.offers.proofs.key_text.Reads as key-text-reads
-use Rattle.ties.proofs.place_of.Reads as place-of-reads
+use Rattle.lookups.proofs.place_of.Reads as place-of-reads
 
 -- src/lib.rt:155:9
 key-of-requires : tie.Need-key-of-requires

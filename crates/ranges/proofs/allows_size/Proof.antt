@@ -1,4 +1,4 @@
--- `layout::allows_size` meets its contract: the range's case picks the test of the number.
+-- `ranges::allows_size` meets its contract: the range's case picks the test of the number.
 use borrow.Author.Needs.{needs}
 use Rattle.ranges.proofs.allows_size.Statement.{statement}
 use Rattle.ranges.proofs.allows_size.Tie as tie

@@ -10,7 +10,7 @@ use Rattle.writing.proofs.write_text.Statement.{statement}
 use Rattle.writing.proofs.write_text.Tie as tie
 use Rattle.writing.proofs.write_text.Reads as reads
 use Rattle.writing.proofs.write_text.Lts as lts
-use Rattle.text.proofs.write_text.Reads as write-text-reads
+use Rattle.lettering.proofs.write_text.Reads as write-text-reads
 
 -- src/lib.rt:273:44
 enum-told : tie.Need-enum-told

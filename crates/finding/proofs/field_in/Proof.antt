@@ -1,0 +1,25 @@
+-- `finding::field_in` meets its contract: each part of the row is one part of the field.
+use Rattle.layout.specs.Packed.{unpack}
+use borrow.Author.Needs.{needs}
+use Rattle.finding.proofs.field_in.Statement.{statement}
+use Rattle.finding.proofs.field_in.Tie as tie
+
+kind-of-requires : tie.Need-kind-of-requires
+kind-of-requires c κs = search needs
+
+first-of-requires : tie.Need-first-of-requires
+first-of-requires c κs = search needs
+
+last-of-requires : tie.Need-last-of-requires
+last-of-requires c κs = search needs
+
+range-of-requires : tie.Need-range-of-requires
+range-of-requires c κs = search needs
+
+returns : tie.Need-returns
+unfolding unpack
+returns c = rw (c .range-of .ensures, c .before .last-of .ensures, c .before .before .first-of .ensures, c .before .before .before .kind-of .ensures)
+
+pub field-in-spec : {M : Type 1} → statement M
+field-in-spec =
+    tie.close (tie.spec kind-of-requires first-of-requires last-of-requires range-of-requires returns)

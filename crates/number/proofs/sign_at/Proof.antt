@@ -1,0 +1,18 @@
+-- `number::sign_at` meets its contract: a plus or a minus is a sign.
+use mathlib.Core.Bool.{Bool, true, false, cond, _||_}
+use mathlib.Core.Path.{_≡_, sym, ap}
+use native.Mathlib.Omega.{arith}
+use Rattle.number.specs.Reading.{signAt}
+use Rattle.number.proofs.sign_at.Statement.{statement}
+use Rattle.number.proofs.sign_at.Tie as tie
+
+returns : tie.Need-returns
+unfolding signAt
+returns c = (rw (c .if1 .taken), omega arith)
+
+returns-2 : tie.Need-returns-2
+unfolding signAt
+returns-2 c = (rw (c .if1 .left), omega arith)
+
+pub sign-at-spec : {M : Type 1} → statement M
+sign-at-spec = tie.close (tie.spec returns returns-2)

@@ -1,0 +1,57 @@
+-- Bytes are printable exactly where no bad one is found among them.
+use Prim.Native.Nat.{ℕ, zero, suc, _+_, _-_, _≤_, _<_}
+use native.Mathlib.Omega.{arith}
+use native.Mathlib.Numerals.{add-one}
+use mathlib.Core.Path.{_≡_, refl, sym, ap, _∙_}
+use mathlib.Core.List.{List, [], _∷_, _++_}
+use mathlib.Core.Bool.{Bool, true, false, cond, _&&_, not, true≢false, false≢true}
+use lib.ListN.{length, getD, take, drop}
+use lib.Dec.{leb, ltb}
+use borrow.Author.Tests.{not-true, not-false}
+use Rattle.digits.proofs.Bools.{and-left, and-right, and-both}
+use Rattle.lists.specs.Count.{first}
+use Rattle.lists.proofs.Finding.{first-le, first-below, first-none}
+use Rattle.text.specs.Texts.{printable}
+use Rattle.seeking.specs.Card.{badAt, firstBad}
+
+-- a byte of printable bytes is none that is bad
+good-at : (s : List ℕ) (i : ℕ) → printable s ≡ true → i < length s → badAt s i ≡ false
+unfolding printable
+good-at [] i h k = absurd (omega arith)
+good-at (b ∷ s) zero h k =
+    let x = leb 32 b in
+    let y = leb b 126 in
+    let r = and-right x (y && printable s) h in
+    ap not (and-both x y (and-left x (y && printable s) h) (and-left y (printable s) r))
+good-at (b ∷ s) (suc i) h k =
+    let x = leb 32 b in
+    let y = leb b 126 in
+    good-at s i (and-right y (printable s) (and-right x (y && printable s) h)) (omega arith)
+
+pub none-bad : (s : List ℕ) → printable s ≡ true → firstBad s ≡ length s
+unfolding firstBad
+none-bad s h = first-none (badAt s) (length s) (λ i k. good-at s i h k)
+
+all-good : (s : List ℕ) → ((i : ℕ) → i < length s → badAt s i ≡ false) → printable s ≡ true
+unfolding printable
+all-good [] h = refl
+all-good (b ∷ s) h =
+    let x = leb 32 b in
+    let y = leb b 126 in
+    let g : (x && y) ≡ true = not-false (x && y) (h 0 (omega arith)) in
+    and-both x (y && printable s) (and-left x y g)
+    (and-both y (printable s) (and-right x y g) (all-good s (λ i k. h (suc i) (omega arith))))
+
+pub bad-none : (s : List ℕ) → length s ≤ firstBad s → printable s ≡ true
+unfolding firstBad
+bad-none s h = all-good s (λ i k. first-below (badAt s) (length s) i (omega arith))
+
+-- what is left of printable bytes
+pub rest-printable : (n : ℕ) (s : List ℕ) → printable s ≡ true → printable (drop n s) ≡ true
+unfolding printable
+rest-printable zero s h = h
+rest-printable (suc n) [] h = refl
+rest-printable (suc n) (b ∷ s) h =
+    let x = leb 32 b in
+    let y = leb b 126 in
+    rest-printable n s (and-right y (printable s) (and-right x (y && printable s) h))
