@@ -5,7 +5,7 @@
 // text N FORM card           its text
 // open |code| card           the card opened with a code
 // put N FORM value card      the card with a value put into field N
-// puttext N FORM |text| card the card with a text put into field N
+// write N FORM |text| card   the card with a text put into field N
 // judge FORM card            the card's first offence by itself, FORM being 0, 1 or ?
 // keep N                     a header of the first N cards, or of all; what the check says of it
 // add N card                 a header with a card, or any columns, put behind it N times; the same
@@ -13,7 +13,7 @@
 // With ties the answer to these two is the number of bytes, and there are
 // check N                    the number of broken ties, and a list of N numbers as the check leaves it
 // sum N                      the same with one number for the whole list
-// count CLASS KEY            how often a key is defined: whole N, pair N M, text |bytes|; or streamer, node or sensor and N
+// times CLASS KEY            how often a key is defined: whole N, pair N M, text |bytes|; or streamer, node or motion and N
 // where CLASS KEY            the place of its only definition
 #include "ties.h"
 
@@ -259,7 +259,7 @@ static int put_command(struct part args)
     return 1;
 }
 
-static int puttext_command(struct part args)
+static int write_command(struct part args)
 {
     uint64_t number, form;
     struct bytes text, card;
@@ -385,7 +385,7 @@ static int key_in(struct part s, struct key *key, struct bytes *text)
 static int question_in(struct part s, uint64_t *class, struct key *key, struct bytes *text)
 {
     struct part name = word(s), rest = next(s);
-    *class = is(name, "streamer") ? 2 : is(name, "node") ? 3 : is(name, "sensor") ? 5 : 0;
+    *class = is(name, "streamer") ? 2 : is(name, "node") ? 3 : is(name, "motion") ? 5 : 0;
     if (*class == 0)
         return number_in(name, class) && key_in(rest, key, text);
     memset(key, 0, sizeof *key);
@@ -422,7 +422,7 @@ static int tie_answer(struct part name, struct part args)
         return check_command(args, 1);
     if (is(name, "sum"))
         return check_command(args, 0);
-    if (is(name, "count"))
+    if (is(name, "times"))
         return key_command(args, 0);
     if (is(name, "where"))
         return key_command(args, 1);
@@ -442,8 +442,8 @@ static int answer(struct part line)
         return open_command(args);
     if (is(name, "put"))
         return put_command(args);
-    if (is(name, "puttext"))
-        return puttext_command(args);
+    if (is(name, "write"))
+        return write_command(args);
     if (is(name, "judge"))
         return judge_command(args);
     if (is(name, "keep"))

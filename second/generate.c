@@ -27,7 +27,7 @@ static const char unknown[][CODE_SIZE + 1] = {"H0110", "H1700", "H1701", "H2100"
                                               "H2302", "H9999", "h0000", "     ", "H00@8", "H0 18", "H8000", "H630:"};
 
 enum operation { OP_FIELD, OP_TEXT, OP_OPEN, OP_PUT, OP_PUTTEXT, OP_JUDGE, OPERATIONS };
-static const char *const names[OPERATIONS] = {"field", "text", "open", "put", "puttext", "judge"};
+static const char *const names[OPERATIONS] = {"field", "text", "open", "put", "write", "judge"};
 
 struct bytes {
     uint8_t at[COLUMNS + 1];

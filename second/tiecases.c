@@ -469,8 +469,8 @@ static void print_byte(uint8_t b)
 
 static void print_question(const struct question *q)
 {
-    static const char *const named[] = {[2] = "streamer", [3] = "node", [5] = "sensor"};
-    printf("%s ", q->where ? "where" : "count");
+    static const char *const named[] = {[2] = "streamer", [3] = "node", [5] = "motion"};
+    printf("%s ", q->where ? "where" : "times");
     if (q->key.kind == KEY_WHOLE && q->class <= 5 && named[q->class] && q->key.first % 2 == 0) {
         printf("%s %lld\n", named[q->class], (long long)q->key.first);
         return;

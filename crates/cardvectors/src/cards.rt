@@ -1,17 +1,13 @@
-// The commands on one card: field, text, open, put, puttext and judge.
+// The commands on one card: field, text, open, put, write and judge.
 use card::Form;
 use card::Verdict;
 use entry::Entered;
 use field::FieldRead;
 use opening::Opened;
 use script::Count;
-use script::page;
+use script::say;
 use seeking::Refusal;
-use spelling::Value;
 use values::Offer;
-ghost use Prim.Native.Nat.{_≤_};
-ghost use lib.ListN.{length};
-ghost use Rattle.script.specs.Counts.{numberOf};
 
 const CARD: usize = 80;
 
@@ -27,79 +23,63 @@ enum Asked {
     Not,
 }
 
-// The size of a card of which some columns were set, the rest being blank.
-fn padded(set: Count, columns: &[u8]) -> Count
-    ensures { λ r. ⌜ numberOf r ≤ length (now (columns .entry)) ⌝ }
-{
-    let Count::Is(n) = set else {
-        return Count::Not;
+// Sets blank columns to a card, |columns| as they are or |columns> with blanks up to the eightieth, and answers its size.
+fn card_in(s: &[u8], columns: &mut [u8]) -> Count {
+    let Count::Is(n) = script::columns_to(s, b'>', columns) else {
+        return script::columns_in(s, columns);
     };
     if CARD < n as usize {
-        return Count::Not;
-    }
-    if columns.len() < CARD {
         return Count::Not;
     }
     Count::Is(CARD as u64)
 }
 
-// Sets blank columns to a card, |columns| as they are or |columns> with blanks up to the eightieth, and answers its size.
-fn card_in(s: &[u8], columns: &mut [u8]) -> Count
-    ensures { λ r. ⌜ numberOf r ≤ length (now (columns .entry)) ⌝ }
-{
-    let set = script::columns_to(s, b'>', columns);
-    if let Count::Is(n) = set {
-        return padded(Count::Is(n), columns);
-    }
-    script::columns_in(s, columns)
+// Writes a refusal: its number, card and column.
+fn say_refusal(r: Refusal) {
+    say::words(b"refused");
+    say::next(r.number as u64);
+    say::next(r.card as u64);
+    say::next(r.column as u64)
 }
 
-// Puts a refusal: its number, card and column.
-fn push_refusal(out: &mut [u8], n: usize, r: Refusal) -> usize {
-    let named = page::push_all(out, n, b"refused");
-    let number = page::push_next(out, named, r.number as u64);
-    let card = page::push_next(out, number, r.card as u64);
-    page::push_next(out, card, r.column as u64)
-}
-
-// Puts what was read.
-fn push_read(out: &mut [u8], n: usize, r: FieldRead) -> usize {
+// Writes what was read.
+fn say_read(r: FieldRead) {
     match r {
-        FieldRead::Is(v) => values::push_value(out, n, v),
-        FieldRead::Refused(why) => push_refusal(out, n, why),
+        FieldRead::Is(v) => values::say_value(v),
+        FieldRead::Refused(why) => say_refusal(why),
     }
 }
 
-// Puts a blank and a card behind an answer.
-fn push_card(out: &mut [u8], n: usize, card: &[u8]) -> usize {
-    let end = page::push(out, n, b' ');
-    page::push_columns(out, end, card)
+// Writes a blank and a card behind an answer.
+fn say_card(card: &[u8]) {
+    say::words(b" ");
+    say::columns(card)
 }
 
-// Puts what came of an entry.
-fn push_entered(out: &mut [u8], n: usize, e: Entered) -> usize {
+// Writes what came of an entry.
+fn say_entered(e: Entered) {
     match e {
-        Entered::Done => page::push_all(out, n, b"done"),
-        Entered::Refused(why) => push_refusal(out, n, why),
+        Entered::Done => say::words(b"done"),
+        Entered::Refused(why) => say_refusal(why),
     }
 }
 
-// Puts what came of opening.
-fn push_opened(out: &mut [u8], n: usize, o: Opened) -> usize {
+// Writes what came of opening.
+fn say_opened(o: Opened) {
     match o {
-        Opened::Done => page::push_all(out, n, b"done"),
-        Opened::Refused(why) => push_refusal(out, n, why),
+        Opened::Done => say::words(b"done"),
+        Opened::Refused(why) => say_refusal(why),
     }
 }
 
-// Puts a card's verdict.
-fn push_verdict(out: &mut [u8], n: usize, v: Verdict) -> usize {
+// Writes a card's verdict.
+fn say_verdict(v: Verdict) {
     match v {
-        Verdict::Fine => page::push_all(out, n, b"fine"),
+        Verdict::Fine => say::words(b"fine"),
         Verdict::Offence(number, column) => {
-            let named = page::push_all(out, n, b"offence");
-            let told = page::push_next(out, named, number as u64);
-            page::push_next(out, told, column as u64)
+            say::words(b"offence");
+            say::next(number as u64);
+            say::next(column as u64)
         }
     }
 }
@@ -115,154 +95,101 @@ fn asked_in(args: &[u8]) -> Asked {
     Asked::Is(number as usize, form as usize)
 }
 
-// field N FORM card
-pub fn read(args: &[u8], out: &mut [u8], n: usize) -> usize {
-    let Asked::Is(number, form) = asked_in(args) else {
-        return page::push_unknown(out, n);
-    };
-    let mut columns = [b' '; 128];
-    let Count::Is(size) = card_in(script::next(script::next(args)), &mut columns) else {
-        return page::push_unknown(out, n);
-    };
-    let card = script::front(&columns, size as usize);
-    push_read(out, n, field::read_field(card, number, form))
-}
-
-// text N FORM card
-pub fn text(args: &[u8], out: &mut [u8], n: usize) -> usize {
-    let Asked::Is(number, form) = asked_in(args) else {
-        return page::push_unknown(out, n);
-    };
-    let mut columns = [b' '; 128];
-    let Count::Is(size) = card_in(script::next(script::next(args)), &mut columns) else {
-        return page::push_unknown(out, n);
-    };
-    let card = script::front(&columns, size as usize);
-    page::push_columns(out, n, field::read_text(card, number, form))
-}
-
-// Opens the first columns as a card.
-fn open_card(columns: &mut [u8], size: usize, code: &[u8], out: &mut [u8], n: usize) -> usize {
-    if columns.len() < size {
-        return page::push_unknown(out, n);
-    }
-    let came = opening::open(&mut columns[..size], code);
-    let told = push_opened(out, n, came);
-    push_card(out, told, script::front(columns, size))
-}
-
-// open |code| card
-pub fn open(args: &[u8], out: &mut [u8], n: usize) -> usize {
-    let mut code = [0u8; 128];
-    let Count::Is(length) = script::columns_in(script::first_part(args), &mut code) else {
-        return page::push_unknown(out, n);
-    };
-    let mut columns = [b' '; 128];
-    let Count::Is(size) = card_in(script::second_part(args), &mut columns) else {
-        return page::push_unknown(out, n);
-    };
-    open_card(
-        &mut columns,
-        size as usize,
-        script::front(&code, length as usize),
-        out,
-        n,
-    )
-}
-
-// Puts a value into the card that the first columns are.
-fn enter_value(
-    columns: &mut [u8],
-    size: usize,
-    number: usize,
-    form: usize,
-    v: Value,
-    out: &mut [u8],
-    n: usize,
-) -> usize {
-    if columns.len() < size {
-        return page::push_unknown(out, n);
-    }
-    let came = entry::put(&mut columns[..size], number, form, v);
-    let told = push_entered(out, n, came);
-    push_card(out, told, script::front(columns, size))
-}
-
-// put N FORM value card
-pub fn put(args: &[u8], out: &mut [u8], n: usize) -> usize {
-    let offer = script::next(script::next(args));
-    let Asked::Is(number, form) = asked_in(args) else {
-        return page::push_unknown(out, n);
-    };
-    let Offer::Is(v) = values::value_in(script::before_bar(offer)) else {
-        return page::push_unknown(out, n);
-    };
-    let mut columns = [b' '; 128];
-    let Count::Is(size) = card_in(script::from_bar(offer), &mut columns) else {
-        return page::push_unknown(out, n);
-    };
-    enter_value(&mut columns, size as usize, number, form, v, out, n)
-}
-
-// Puts a text into the card that the first columns are.
-fn enter_text(
-    columns: &mut [u8],
-    size: usize,
-    number: usize,
-    form: usize,
-    text: &[u8],
-    out: &mut [u8],
-    n: usize,
-) -> usize {
-    if columns.len() < size {
-        return page::push_unknown(out, n);
-    }
-    let came = entry::put_text(&mut columns[..size], number, form, text);
-    let told = push_entered(out, n, came);
-    push_card(out, told, script::front(columns, size))
-}
-
-// puttext N FORM |text| card
-pub fn put_text(args: &[u8], out: &mut [u8], n: usize) -> usize {
-    let offer = script::next(script::next(args));
-    let Asked::Is(number, form) = asked_in(args) else {
-        return page::push_unknown(out, n);
-    };
-    let mut text = [0u8; 128];
-    let Count::Is(length) = script::columns_in(script::first_part(offer), &mut text) else {
-        return page::push_unknown(out, n);
-    };
-    let mut columns = [b' '; 128];
-    let Count::Is(size) = card_in(script::second_part(offer), &mut columns) else {
-        return page::push_unknown(out, n);
-    };
-    let offered = script::front(&text, length as usize);
-    enter_text(&mut columns, size as usize, number, form, offered, out, n)
-}
-
 // The form that a word names.
 fn form_in(s: &[u8]) -> Known {
-    if script::same(s, b"0") {
-        return Known::Is(Form::Angles);
+    if s.len() != 1 {
+        return Known::Not;
     }
-    if script::same(s, b"1") {
-        return Known::Is(Form::Grid);
+    match s[0] {
+        b'0' => Known::Is(Form::Angles),
+        b'1' => Known::Is(Form::Grid),
+        b'?' => Known::Is(Form::Unknown),
+        _ => Known::Not,
     }
-    if script::same(s, b"?") {
-        return Known::Is(Form::Unknown);
-    }
-    Known::Not
 }
 
 // judge FORM card
-pub fn judge(args: &[u8], out: &mut [u8], n: usize) -> usize {
+fn judge(args: &[u8], card: &[u8]) {
     let Known::Is(form) = form_in(script::word(args)) else {
-        return page::push_unknown(out, n);
+        return say::unknown();
     };
+    say_verdict(card::judge_card(card, form))
+}
+
+// open |code| card
+fn open(args: &[u8], card: &mut [u8]) {
+    let mut code = [0u8; 128];
+    let Count::Is(length) = script::columns_in(script::first_part(args), &mut code) else {
+        return say::unknown();
+    };
+    say_opened(opening::open(card, script::front(&code, length as usize)));
+    say_card(card)
+}
+
+// put N FORM value card
+fn put(offer: &[u8], card: &mut [u8], number: usize, form: usize) {
+    let Offer::Is(v) = values::value_in(script::before_bar(offer)) else {
+        return say::unknown();
+    };
+    say_entered(entry::put(card, number, form, v));
+    say_card(card)
+}
+
+// write N FORM |text| card
+fn write(offer: &[u8], card: &mut [u8], number: usize, form: usize) {
+    let mut text = [0u8; 128];
+    let Count::Is(length) = script::columns_in(script::first_part(offer), &mut text) else {
+        return say::unknown();
+    };
+    let offered = script::front(&text, length as usize);
+    say_entered(entry::put_text(card, number, form, offered));
+    say_card(card)
+}
+
+// field N FORM card, text N FORM card and the two entries
+fn on_field(letter: u8, args: &[u8], card: &mut [u8]) {
+    let Asked::Is(number, form) = asked_in(args) else {
+        return say::unknown();
+    };
+    let offer = script::next(script::next(args));
+    match letter {
+        b'f' => say_read(field::read_field(card, number, form)),
+        b't' => say::columns(field::read_text(card, number, form)),
+        b'p' => put(offer, card, number, form),
+        b'w' => write(offer, card, number, form),
+        _ => say::unknown(),
+    }
+}
+
+// Answers a command on the card that the first columns are.
+fn on_card(line: &[u8], columns: &mut [u8], size: usize) {
+    if columns.len() < size {
+        return say::unknown();
+    }
+    let card = &mut columns[..size];
+    let args = script::next(line);
+    match script::letter(line) {
+        b'j' => judge(args, card),
+        b'o' => open(args, card),
+        letter => on_field(letter, args, card),
+    }
+}
+
+// The card that a command ends with; a code or a text stands before it.
+fn card_part(line: &[u8]) -> &[u8] {
+    let parts = script::from_bar(line);
+    match script::letter(line) {
+        b'o' => script::second_part(parts),
+        b'w' => script::second_part(parts),
+        _ => parts,
+    }
+}
+
+// Answers a command.
+pub fn answer(line: &[u8]) {
     let mut columns = [b' '; 128];
-    let Count::Is(size) = card_in(script::next(args), &mut columns) else {
-        return page::push_unknown(out, n);
+    let Count::Is(size) = card_in(card_part(line), &mut columns) else {
+        return say::unknown();
     };
-    let card = script::front(&columns, size as usize);
-    push_verdict(out, n, card::judge_card(card, form))
+    on_card(line, &mut columns, size as usize)
 }

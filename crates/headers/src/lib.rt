@@ -1,6 +1,5 @@
 // A header that a script makes card by card.
 use script::Count;
-use script::page;
 
 const CARD: usize = 80;
 
@@ -20,7 +19,22 @@ fn columns_in(text: &[u8], columns: &mut [u8]) -> usize {
     number_of(script::columns_in(text, columns))
 }
 
-// Puts columns behind the first m bytes of a header, if there is room, and answers how many there are then.
+// Puts columns behind the first m bytes of a header, as far as there is room, and answers how many there are then.
+fn set_behind(header: &mut [u8], m: usize, columns: &[u8]) -> usize {
+    let mut end = m;
+    let mut i = 0;
+    while i < columns.len() {
+        if header.len() <= end {
+            return end;
+        }
+        header[end] = columns[i];
+        end += 1;
+        i += 1;
+    }
+    end
+}
+
+// Puts them there if there is room for all.
 fn append(header: &mut [u8], m: usize, columns: &[u8]) -> usize {
     if header.len() < columns.len() {
         return m;
@@ -28,7 +42,7 @@ fn append(header: &mut [u8], m: usize, columns: &[u8]) -> usize {
     if header.len() - columns.len() < m {
         return m;
     }
-    page::push_all(header, m, columns)
+    set_behind(header, m, columns)
 }
 
 // Puts columns there a number of times.
@@ -61,11 +75,9 @@ fn keep(args: &[u8], m: usize) -> usize {
 
 // Does what a line says, and answers how many bytes the header then has.
 pub fn fill(line: &[u8], header: &mut [u8], m: usize) -> usize {
-    if script::begins(line, b"keep ") {
-        return keep(script::next(line), m);
+    match script::letter(line) {
+        b'k' => keep(script::next(line), m),
+        b'a' => add(script::next(line), header, m),
+        _ => m,
     }
-    if script::begins(line, b"add ") {
-        return add(script::next(line), header, m);
-    }
-    m
 }

@@ -1,12 +1,9 @@
 // The script: its lines, their words, and what numbers and columns stand in them.
-pub mod page;
+pub mod say;
 
 ghost use mathlib.Core.Path.{_≡_};
-ghost use mathlib.Core.Bool.{true, _||_};
 ghost use Prim.Native.Nat.{_≤_, _<_, min};
-ghost use lib.Dec.{eqb};
-ghost use lib.ListN.{length, take, getD};
-ghost use Rattle.script.specs.Counts.{numberOf};
+ghost use lib.ListN.{length};
 
 const BLANK: u8 = 32;
 
@@ -27,6 +24,13 @@ pub enum Signed {
     Not,
 }
 
+// Room for a script.
+pub fn room() -> [u8; 262144]
+    ensures { λ r. ⌜ 262144 ≡ length r ⌝ }
+{
+    [0; 262144]
+}
+
 // The place of the first b, or the length where there is none.
 fn place(s: &[u8], b: u8) -> usize
     ensures { λ r. ⌜ r ≤ length (now (s .entry)) ⌝ }
@@ -42,10 +46,7 @@ fn place(s: &[u8], b: u8) -> usize
 }
 
 // The first n bytes, or all.
-pub fn front(s: &[u8], n: usize) -> &[u8]
-    ensures bytes { λ r. ⌜ now r ≡ take n (now (s .entry)) ⌝ }
-    ensures size { λ r. ⌜ length (now r) ≤ length (now (s .entry)) ⌝ }
-{
+pub fn front(s: &[u8], n: usize) -> &[u8] {
     if n < s.len() {
         return &s[..n];
     }
@@ -53,9 +54,7 @@ pub fn front(s: &[u8], n: usize) -> &[u8]
 }
 
 // What stands behind the first b, empty where there is none.
-fn behind(s: &[u8], b: u8) -> &[u8]
-    ensures { λ r. ⌜ length (now r) ≤ length (now (s .entry)) ⌝ }
-{
+fn behind(s: &[u8], b: u8) -> &[u8] {
     let at = place(s, b);
     if at < s.len() {
         return &s[at + 1..];
@@ -75,40 +74,48 @@ pub fn line_size(s: &[u8]) -> usize
 }
 
 // The first line, without its end.
-pub fn line_in(s: &[u8]) -> &[u8]
-    ensures { λ r. ⌜ length (now r) ≤ length (now (s .entry)) ⌝ }
-{
+pub fn line_in(s: &[u8]) -> &[u8] {
     front(s, place(s, b'\n'))
 }
 
 // The first word.
-pub fn word(s: &[u8]) -> &[u8]
-    ensures { λ r. ⌜ length (now r) ≤ length (now (s .entry)) ⌝ }
-{
+pub fn word(s: &[u8]) -> &[u8] {
     front(s, place(s, BLANK))
 }
 
 // What stands behind the first word and its blank.
-pub fn next(s: &[u8]) -> &[u8]
-    ensures { λ r. ⌜ length (now r) ≤ length (now (s .entry)) ⌝ }
-{
+pub fn next(s: &[u8]) -> &[u8] {
     behind(s, BLANK)
 }
 
 // Whether a line is empty or a title.
-pub fn is_title(line: &[u8]) -> bool
-    ensures { λ r. ⌜ r ≡ eqb (length (now (line .entry))) 0 || eqb (getD (now (line .entry)) 0 0) 35 ⌝ }
-{
+fn is_title(line: &[u8]) -> bool {
     if line.len() == 0 {
         return true;
     }
     line[0] == b'#'
 }
 
+// Repeats a line, and answers whether it asks for an answer: an empty line and a title do not.
+pub fn asks(line: &[u8]) -> bool {
+    say::words(line);
+    if is_title(line) {
+        return false;
+    }
+    say::words(b" = ");
+    true
+}
+
+// The first letter of a command, 0 where there is none.
+pub fn letter(s: &[u8]) -> u8 {
+    if s.len() == 0 {
+        return 0;
+    }
+    s[0]
+}
+
 // Whether s begins with a text.
-pub fn begins(s: &[u8], text: &[u8]) -> bool
-    ensures { λ r. ⌜ (r ≡ true → length (now (text .entry)) ≤ length (now (s .entry))) ⌝ }
-{
+pub fn begins(s: &[u8], text: &[u8]) -> bool {
     let mut i = 0;
     while i < text.len() {
         if s.len() <= i {
@@ -123,9 +130,7 @@ pub fn begins(s: &[u8], text: &[u8]) -> bool
 }
 
 // Whether two texts are the same.
-pub fn same(s: &[u8], text: &[u8]) -> bool
-    ensures { λ r. ⌜ (r ≡ true → length (now (s .entry)) ≡ length (now (text .entry))) ⌝ }
-{
+pub fn same(s: &[u8], text: &[u8]) -> bool {
     if s.len() != text.len() {
         return false;
     }
@@ -208,9 +213,7 @@ fn meant(b: u8) -> u8 {
 }
 
 // Sets the columns to what s stands for, and answers how many these are.
-fn set_columns(s: &[u8], columns: &mut [u8]) -> Count
-    ensures { λ r. ⌜ numberOf r ≤ length (now (columns .entry)) ⌝ }
-{
+fn set_columns(s: &[u8], columns: &mut [u8]) -> Count {
     let mut i = 0;
     while i < s.len() {
         if columns.len() <= i {
@@ -223,9 +226,7 @@ fn set_columns(s: &[u8], columns: &mut [u8]) -> Count
 }
 
 // Sets the columns to what stands between a bar and an end, and answers how many these are.
-pub fn columns_to(s: &[u8], end: u8, columns: &mut [u8]) -> Count
-    ensures { λ r. ⌜ numberOf r ≤ length (now (columns .entry)) ⌝ }
-{
+pub fn columns_to(s: &[u8], end: u8, columns: &mut [u8]) -> Count {
     if s.len() < 2 {
         return Count::Not;
     }
@@ -237,16 +238,12 @@ pub fn columns_to(s: &[u8], end: u8, columns: &mut [u8]) -> Count
 }
 
 // Sets the columns to what stands between the bars, and answers how many these are.
-pub fn columns_in(s: &[u8], columns: &mut [u8]) -> Count
-    ensures { λ r. ⌜ numberOf r ≤ length (now (columns .entry)) ⌝ }
-{
+pub fn columns_in(s: &[u8], columns: &mut [u8]) -> Count {
     columns_to(s, BAR, columns)
 }
 
 // What stands before the first bar and the blank before it.
-pub fn before_bar(s: &[u8]) -> &[u8]
-    ensures { λ r. ⌜ length (now r) ≤ length (now (s .entry)) ⌝ }
-{
+pub fn before_bar(s: &[u8]) -> &[u8] {
     let at = place(s, BAR);
     if at == 0 {
         return front(s, 0);
@@ -255,9 +252,7 @@ pub fn before_bar(s: &[u8]) -> &[u8]
 }
 
 // From the first bar on, empty where there is none.
-pub fn from_bar(s: &[u8]) -> &[u8]
-    ensures { λ r. ⌜ length (now r) ≤ length (now (s .entry)) ⌝ }
-{
+pub fn from_bar(s: &[u8]) -> &[u8] {
     let at = place(s, BAR);
     &s[at..]
 }
@@ -285,16 +280,12 @@ fn seam(s: &[u8]) -> usize
 }
 
 // The first of two parts between bars, or all.
-pub fn first_part(s: &[u8]) -> &[u8]
-    ensures { λ r. ⌜ length (now r) ≤ length (now (s .entry)) ⌝ }
-{
+pub fn first_part(s: &[u8]) -> &[u8] {
     front(s, seam(s))
 }
 
 // The second of two parts between bars, empty where there is none.
-pub fn second_part(s: &[u8]) -> &[u8]
-    ensures { λ r. ⌜ length (now r) ≤ length (now (s .entry)) ⌝ }
-{
+pub fn second_part(s: &[u8]) -> &[u8] {
     let at = seam(s);
     if at < s.len() {
         return &s[at + 1..];

@@ -7,37 +7,37 @@ use questions::Key;
 use questions::Place;
 use script::Count;
 use script::Signed;
-use script::page;
+use script::say;
 use seeking::Refusal;
 
-// Puts a refusal.
-pub fn push_refused(out: &mut [u8], n: usize, r: Refusal) -> usize {
-    let named = page::push_all(out, n, b"refused");
-    let number = page::push_next(out, named, r.number as u64);
-    let card = page::push_next(out, number, r.card as u64);
-    page::push_next(out, card, r.column as u64)
+// Writes a refusal.
+pub fn say_refused(r: Refusal) {
+    say::words(b"refused");
+    say::next(r.number as u64);
+    say::next(r.card as u64);
+    say::next(r.column as u64)
 }
 
-// Puts the number of definitions.
-fn push_number(out: &mut [u8], n: usize, d: Definitions) -> usize {
+// Writes how often a key is defined.
+pub fn say_times(d: Definitions) {
     match d {
         Definitions::Number(k) => {
-            let named = page::push_all(out, n, b"number");
-            page::push_next(out, named, k as u64)
+            say::words(b"number");
+            say::next(k as u64)
         }
-        Definitions::Refused(r) => push_refused(out, n, r),
+        Definitions::Refused(r) => say_refused(r),
     }
 }
 
-// Puts the place of a definition.
-fn push_place(out: &mut [u8], n: usize, p: Place) -> usize {
+// Writes the place of a definition.
+pub fn say_place(p: Place) {
     match p {
         Place::At(card, column) => {
-            let named = page::push_all(out, n, b"at");
-            let first = page::push_next(out, named, card as u64);
-            page::push_next(out, first, column as u64)
+            say::words(b"at");
+            say::next(card as u64);
+            say::next(column as u64)
         }
-        Place::Refused(r) => push_refused(out, n, r),
+        Place::Refused(r) => say_refused(r),
     }
 }
 
@@ -52,13 +52,11 @@ fn whole_in(s: &[u8]) -> i64 {
 // whole N, pair N M, or a text
 fn key_in(s: &[u8]) -> Key {
     let rest = script::next(s);
-    if script::begins(s, b"whole ") {
-        return Key::Whole(whole_in(rest));
+    match script::letter(s) {
+        b'w' => Key::Whole(whole_in(rest)),
+        b'p' => Key::Pair(whole_in(script::word(rest)), whole_in(script::next(rest))),
+        _ => Key::Text,
     }
-    if script::begins(s, b"pair ") {
-        return Key::Pair(whole_in(script::word(rest)), whole_in(script::next(rest)));
-    }
-    Key::Text
 }
 
 // The class, 0 where there is none.
@@ -69,62 +67,42 @@ fn class_in(s: &[u8]) -> u64 {
     }
 }
 
-// CLASS KEY, or streamer, node or sensor and a number: how often it is defined.
-pub fn count(args: &[u8], header: &[u8], out: &mut [u8], n: usize) -> usize {
+// CLASS KEY: how often it is defined.
+fn times_by(args: &[u8], header: &[u8]) -> Definitions {
     let key = script::next(args);
-    if script::begins(args, b"streamer ") {
-        return push_number(
-            out,
-            n,
-            lookups::streamer_definitions(header, Streamer(whole_in(key))),
-        );
-    }
-    if script::begins(args, b"node ") {
-        return push_number(
-            out,
-            n,
-            lookups::node_definitions(header, Node(whole_in(key))),
-        );
-    }
-    if script::begins(args, b"sensor ") {
-        return push_number(
-            out,
-            n,
-            lookups::sensor_definitions(header, Sensor(whole_in(key))),
-        );
-    }
     let mut columns = [b' '; 128];
     let size = headers::number_of(script::columns_in(script::from_bar(key), &mut columns));
     let class = class_in(script::word(args));
-    push_number(
-        out,
-        n,
-        lookups::definitions_of(header, class, key_in(key), script::front(&columns, size)),
-    )
+    lookups::definitions_of(header, class, key_in(key), script::front(&columns, size))
 }
 
-// The same: where the only definition is.
-pub fn locate(args: &[u8], header: &[u8], out: &mut [u8], n: usize) -> usize {
+// CLASS KEY: where the only definition is.
+fn locate_by(args: &[u8], header: &[u8]) -> Place {
     let key = script::next(args);
-    if script::begins(args, b"streamer ") {
-        return push_place(
-            out,
-            n,
-            lookups::streamer_place(header, Streamer(whole_in(key))),
-        );
-    }
-    if script::begins(args, b"node ") {
-        return push_place(out, n, lookups::node_place(header, Node(whole_in(key))));
-    }
-    if script::begins(args, b"sensor ") {
-        return push_place(out, n, lookups::sensor_place(header, Sensor(whole_in(key))));
-    }
     let mut columns = [b' '; 128];
     let size = headers::number_of(script::columns_in(script::from_bar(key), &mut columns));
     let class = class_in(script::word(args));
-    push_place(
-        out,
-        n,
-        lookups::place_of(header, class, key_in(key), script::front(&columns, size)),
-    )
+    lookups::place_of(header, class, key_in(key), script::front(&columns, size))
+}
+
+// The same, or streamer, node or motion and a number.
+pub fn times(args: &[u8], header: &[u8]) -> Definitions {
+    let n = whole_in(script::next(args));
+    match script::letter(args) {
+        b's' => lookups::streamer_definitions(header, Streamer(n)),
+        b'n' => lookups::node_definitions(header, Node(n)),
+        b'm' => lookups::sensor_definitions(header, Sensor(n)),
+        _ => times_by(args, header),
+    }
+}
+
+// The same: where.
+pub fn locate(args: &[u8], header: &[u8]) -> Place {
+    let n = whole_in(script::next(args));
+    match script::letter(args) {
+        b's' => lookups::streamer_place(header, Streamer(n)),
+        b'n' => lookups::node_place(header, Node(n)),
+        b'm' => lookups::sensor_place(header, Sensor(n)),
+        _ => locate_by(args, header),
+    }
 }

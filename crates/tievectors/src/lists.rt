@@ -1,5 +1,5 @@
 // Lists of numbers that the check is lent: marked before it, shown or summed behind it.
-use script::page;
+use script::say;
 ghost use Prim.Native.Nat.{_<_};
 
 // The mark of a place, larger than any number of an entry.
@@ -16,24 +16,21 @@ pub fn mark(list: &mut [u32]) {
     }
 }
 
-// Puts the number at a place, a bar before each three.
-fn push_entry(out: &mut [u8], n: usize, i: usize, x: u32) -> usize {
+// Writes the number at a place, a bar before each three.
+fn say_entry(i: usize, x: u32) {
     if i % 3 == 0 {
-        let barred = page::push_all(out, n, b" |");
-        return page::push_next(out, barred, x as u64);
+        say::words(b" |");
     }
-    page::push_next(out, n, x as u64)
+    say::next(x as u64)
 }
 
-// Puts all numbers.
-pub fn push_list(out: &mut [u8], n: usize, list: &[u32]) -> usize {
-    let mut end = n;
+// Writes all numbers.
+pub fn say_list(list: &[u32]) {
     let mut i = 0;
     while i < list.len() {
-        end = push_entry(out, end, i, list[i]);
+        say_entry(i, list[i]);
         i += 1;
     }
-    end
 }
 
 // A sum with one more number behind it.

@@ -1,11 +1,9 @@
 // Values: as a script spells them, and as an answer does.
-ghost use Prim.Native.Nat.{_≤_, max};
-ghost use lib.ListN.{length};
 use date::Date;
 use number::Decimal;
 use script::Count;
 use script::Signed;
-use script::page;
+use script::say;
 use spelling::Columns;
 use spelling::Reading;
 use spelling::Value;
@@ -116,74 +114,59 @@ pub fn value_in(s: &[u8]) -> Offer {
     Offer::Not
 }
 
-// Puts a number that may be below zero behind a blank.
-fn push_signed(out: &mut [u8], n: usize, z: i64) -> usize
-    ensures { λ r. ⌜ r ≤ max n (length (now (out .entry))) ⌝ }
-{
+// Writes a number that may be below zero behind a blank.
+fn say_signed(z: i64) {
     if signs::below_zero(z) {
-        let end = page::push_all(out, n, b" -");
-        return page::push_number(out, end, signs::magnitude(z));
+        say::words(b" -");
+        return say::number(signs::magnitude(z));
     }
-    page::push_next(out, n, signs::magnitude(z))
+    say::next(signs::magnitude(z))
 }
 
-// Puts units and places.
-fn push_decimal(out: &mut [u8], n: usize, d: Decimal) -> usize
-    ensures { λ r. ⌜ r ≤ max n (length (now (out .entry))) ⌝ }
-{
-    let named = page::push_all(out, n, b"decimal");
-    let told = push_signed(out, named, d.units);
-    page::push_next(out, told, d.places as u64)
+// Writes a word and a number.
+fn say_named(name: &[u8], z: i64) {
+    say::words(name);
+    say_signed(z)
 }
 
-// Puts year, month and day.
-fn push_date(out: &mut [u8], n: usize, d: Date) -> usize
-    ensures { λ r. ⌜ r ≤ max n (length (now (out .entry))) ⌝ }
-{
-    let named = page::push_all(out, n, b"date");
-    let year = page::push_next(out, named, d.year as u64);
-    let month = page::push_next(out, year, d.month as u64);
-    page::push_next(out, month, d.day as u64)
+// Writes units and places.
+fn say_decimal(d: Decimal) {
+    say_named(b"decimal", d.units);
+    say::next(d.places as u64)
 }
 
-// Puts the first and the last column of a text.
-fn push_text(out: &mut [u8], n: usize, c: Columns) -> usize
-    ensures { λ r. ⌜ r ≤ max n (length (now (out .entry))) ⌝ }
-{
-    let named = page::push_all(out, n, b"text");
-    let first = page::push_next(out, named, c.first as u64);
-    page::push_next(out, first, c.last as u64)
+// Writes year, month and day.
+fn say_date(d: Date) {
+    say::words(b"date");
+    say::next(d.year as u64);
+    say::next(d.month as u64);
+    say::next(d.day as u64)
 }
 
-// Puts a word and a number.
-fn push_named(out: &mut [u8], n: usize, name: &[u8], z: i64) -> usize
-    ensures { λ r. ⌜ r ≤ max n (length (now (out .entry))) ⌝ }
-{
-    let named = page::push_all(out, n, name);
-    push_signed(out, named, z)
+// Writes the first and the last column of a text.
+fn say_text(c: Columns) {
+    say::words(b"text");
+    say::next(c.first as u64);
+    say::next(c.last as u64)
 }
 
-// Puts a value.
-pub fn push_value(out: &mut [u8], n: usize, v: Value) -> usize
-    ensures { λ r. ⌜ r ≤ max n (length (now (out .entry))) ⌝ }
-{
+// Writes a value.
+pub fn say_value(v: Value) {
     match v {
-        Value::Absent => page::push_all(out, n, b"absent"),
-        Value::Whole(z) => push_named(out, n, b"whole", z),
-        Value::Decimal(d) => push_decimal(out, n, d),
-        Value::Angle(z) => push_named(out, n, b"angle", z),
-        Value::Date(d) => push_date(out, n, d),
-        Value::Text(c) => push_text(out, n, c),
+        Value::Absent => say::words(b"absent"),
+        Value::Whole(z) => say_named(b"whole", z),
+        Value::Decimal(d) => say_decimal(d),
+        Value::Angle(z) => say_named(b"angle", z),
+        Value::Date(d) => say_date(d),
+        Value::Text(c) => say_text(c),
     }
 }
 
-// Puts what stands in a field, or the number of its refusal.
-pub fn push_reading(out: &mut [u8], n: usize, r: Reading) -> usize
-    ensures { λ r. ⌜ r ≤ max n (length (now (out .entry))) ⌝ }
-{
+// Writes what stands in a field, or the number of its refusal.
+pub fn say_reading(r: Reading) {
     match r {
-        Reading::Held(v) => push_value(out, n, v),
-        Reading::Malformed => page::push_number(out, n, 9),
-        Reading::OutOfRange => page::push_number(out, n, 10),
+        Reading::Held(v) => say_value(v),
+        Reading::Malformed => say::number(9),
+        Reading::OutOfRange => say::number(10),
     }
 }

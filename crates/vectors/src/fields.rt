@@ -1,9 +1,8 @@
 // The commands on one field's columns: read, text, write and put.
 use digits::Written;
 use script::Count;
-use script::page;
+use script::say;
 use spelling::Spelling;
-use spelling::Value;
 use values::Offer;
 
 // A spelling, or what is none.
@@ -49,107 +48,78 @@ fn number_of(w: Written) -> u64 {
     }
 }
 
-// Puts what came of writing, and the columns.
-fn push_written(out: &mut [u8], n: usize, w: Written, columns: &[u8]) -> usize {
-    let told = page::push_number(out, n, number_of(w));
-    let end = page::push(out, told, b' ');
-    page::push_columns(out, end, columns)
+// Writes what came of writing, and the columns.
+fn say_written(w: Written, columns: &[u8]) {
+    say::number(number_of(w));
+    say::words(b" ");
+    say::columns(columns)
 }
 
-// read K |columns|
-pub fn read(args: &[u8], out: &mut [u8], n: usize) -> usize {
-    let Kind::Is(k) = kind_in(args) else {
-        return page::push_unknown(out, n);
-    };
-    let mut columns = [0u8; 128];
-    let Count::Is(w) = script::columns_in(script::next(args), &mut columns) else {
-        return page::push_unknown(out, n);
-    };
-    let field = script::front(&columns, w as usize);
-    values::push_reading(out, n, spelling::read(field, k))
-}
-
-// text K |columns|
-pub fn text(args: &[u8], out: &mut [u8], n: usize) -> usize {
-    let Kind::Is(k) = kind_in(args) else {
-        return page::push_unknown(out, n);
-    };
-    let mut columns = [0u8; 128];
-    let Count::Is(w) = script::columns_in(script::next(args), &mut columns) else {
-        return page::push_unknown(out, n);
-    };
-    let field = script::front(&columns, w as usize);
-    page::push_columns(out, n, spelling::text_of(field, k))
-}
-
-// Writes a value into the first w columns.
-fn enter_value(
-    columns: &mut [u8],
-    w: usize,
-    k: Spelling,
-    v: Value,
-    out: &mut [u8],
-    n: usize,
-) -> usize {
-    if columns.len() < w {
-        return page::push_unknown(out, n);
+// read K |columns|, text K |columns|
+fn read(field: &[u8], k: Spelling, text: bool) {
+    if text {
+        return say::columns(spelling::text_of(field, k));
     }
-    let came = writing::write(&mut columns[..w], k, v);
-    push_written(out, n, came, script::front(columns, w))
+    values::say_reading(spelling::read(field, k))
 }
 
 // write K W value
-pub fn write(args: &[u8], out: &mut [u8], n: usize) -> usize {
-    let Kind::Is(k) = kind_in(args) else {
-        return page::push_unknown(out, n);
+fn write(offer: &[u8], columns: &mut [u8], k: Spelling) {
+    let Offer::Is(v) = values::value_in(offer) else {
+        return say::unknown();
     };
-    let rest = script::next(args);
-    let Count::Is(w) = script::count_in(script::word(rest)) else {
-        return page::push_unknown(out, n);
-    };
-    let Offer::Is(v) = values::value_in(script::next(rest)) else {
-        return page::push_unknown(out, n);
-    };
-    let mut columns = [b'#'; 128];
-    enter_value(&mut columns, w as usize, k, v, out, n)
-}
-
-// Writes a text into the first w columns.
-fn enter_text(
-    columns: &mut [u8],
-    w: usize,
-    k: Spelling,
-    text: &[u8],
-    out: &mut [u8],
-    n: usize,
-) -> usize {
-    if columns.len() < w {
-        return page::push_unknown(out, n);
-    }
-    let came = writing::write_text(&mut columns[..w], k, text);
-    push_written(out, n, came, script::front(columns, w))
+    say_written(writing::write(columns, k, v), columns)
 }
 
 // put K W |text|
-pub fn put(args: &[u8], out: &mut [u8], n: usize) -> usize {
-    let Kind::Is(k) = kind_in(args) else {
-        return page::push_unknown(out, n);
-    };
-    let rest = script::next(args);
-    let Count::Is(w) = script::count_in(script::word(rest)) else {
-        return page::push_unknown(out, n);
-    };
+fn put(offer: &[u8], columns: &mut [u8], k: Spelling) {
     let mut text = [0u8; 128];
-    let Count::Is(size) = script::columns_in(script::next(rest), &mut text) else {
-        return page::push_unknown(out, n);
+    let Count::Is(size) = script::columns_in(offer, &mut text) else {
+        return say::unknown();
     };
+    let offered = script::front(&text, size as usize);
+    say_written(writing::write_text(columns, k, offered), columns)
+}
+
+// Writes a value or a text into the first w columns.
+fn enter(offer: &[u8], columns: &mut [u8], w: usize, k: Spelling, text: bool) {
+    if columns.len() < w {
+        return say::unknown();
+    }
+    let field = &mut columns[..w];
+    if text {
+        return put(offer, field, k);
+    }
+    write(offer, field, k)
+}
+
+// K and |columns|, or K, W and what is offered
+fn on_field(args: &[u8], k: Spelling, letter: u8) {
     let mut columns = [b'#'; 128];
-    enter_text(
-        &mut columns,
-        w as usize,
-        k,
-        script::front(&text, size as usize),
-        out,
-        n,
-    )
+    let rest = script::next(args);
+    if (letter == b'w') | (letter == b'p') {
+        let Count::Is(w) = script::count_in(script::word(rest)) else {
+            return say::unknown();
+        };
+        return enter(
+            script::next(rest),
+            &mut columns,
+            w as usize,
+            k,
+            letter == b'p',
+        );
+    }
+    let Count::Is(w) = script::columns_in(rest, &mut columns) else {
+        return say::unknown();
+    };
+    read(script::front(&columns, w as usize), k, letter == b't')
+}
+
+// Answers a command.
+pub fn answer(line: &[u8]) {
+    let args = script::next(line);
+    let Kind::Is(k) = kind_in(args) else {
+        return say::unknown();
+    };
+    on_field(args, k, script::letter(line))
 }

@@ -1,16 +1,15 @@
 -- `run` is safe and ends: each turn passes a whole line.
 use lib.ListN.{length}
-use mathlib.Core.Path.{_≡_}
 use Prim.Native.Nat.{_≤_, _-_}
 use borrow.Author.Needs.{needs}
 use Rattle.cardvectors.proofs.run.Statement.{statement}
 use Rattle.cardvectors.proofs.run.Tie as tie
 
 abbrev Inv-loop : tie.InvT-loop
-Inv-loop text out₀ n₀ i₀ out n i = (i ≤ length text) × (length out ≡ length out₀)
+Inv-loop text i₀ i = i ≤ length text
 
 abbrev μ-loop : tie.MeasureT-loop
-μ-loop text out₀ n₀ i₀ out n i = length text - i
+μ-loop text i₀ i = length text - i
 
 loop-holds : tie.Need-loop-holds Inv-loop μ-loop
 loop-holds c = search needs
@@ -24,14 +23,20 @@ part-rest-start c = search needs
 part-rest-end : tie.Need-part-rest-end Inv-loop μ-loop
 part-rest-end c = search needs
 
-line-size-requires : tie.Need-line-size-requires Inv-loop μ-loop
-line-size-requires c κs = search needs
-
 line-in-requires : tie.Need-line-in-requires Inv-loop μ-loop
 line-in-requires c κs = search needs
 
-reply-requires : tie.Need-reply-requires Inv-loop μ-loop
-reply-requires c κs = search needs
+asks-requires : tie.Need-asks-requires Inv-loop μ-loop
+asks-requires c κs = search needs
+
+answer-requires : tie.Need-answer-requires Inv-loop μ-loop
+answer-requires c κs = search needs
+
+end-requires : tie.Need-end-requires Inv-loop μ-loop
+end-requires c κs = search needs
+
+line-size-requires : tie.Need-line-size-requires Inv-loop μ-loop
+line-size-requires c κs = search needs
 
 add-i : tie.Need-add-i Inv-loop μ-loop
 add-i c = search needs
@@ -41,9 +46,6 @@ loop-less c = search needs
 
 loop-again : tie.Need-loop-again Inv-loop μ-loop
 loop-again c = search needs
-
-same-length : tie.Need-same-length Inv-loop μ-loop
-same-length c = search needs
 
 returns : tie.Need-returns Inv-loop μ-loop
 returns c = search needs
@@ -58,11 +60,12 @@ run-spec =
     sub-rest
     part-rest-start
     part-rest-end
-    line-size-requires
     line-in-requires
-    reply-requires
+    asks-requires
+    answer-requires
+    end-requires
+    line-size-requires
     add-i
     loop-less
     loop-again
-    same-length
     returns)

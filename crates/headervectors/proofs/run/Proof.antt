@@ -7,11 +7,10 @@ use Rattle.headervectors.proofs.run.Statement.{statement}
 use Rattle.headervectors.proofs.run.Tie as tie
 
 abbrev Inv-loop : tie.InvT-loop
-Inv-loop text header₀ out₀ m₀ n₀ i₀ header out m n i =
-    (i ≤ length text) × (length header ≡ length header₀) × (length out ≡ length out₀)
+Inv-loop text header₀ m₀ i₀ header m i = (i ≤ length text) × (length header ≡ length header₀)
 
 abbrev μ-loop : tie.MeasureT-loop
-μ-loop text header₀ out₀ m₀ n₀ i₀ header out m n i = length text - i
+μ-loop text header₀ m₀ i₀ header m i = length text - i
 
 loop-holds : tie.Need-loop-holds Inv-loop μ-loop
 loop-holds c = search needs
@@ -25,20 +24,29 @@ part-rest-start c = search needs
 part-rest-end : tie.Need-part-rest-end Inv-loop μ-loop
 part-rest-end c = search needs
 
-line-size-requires : tie.Need-line-size-requires Inv-loop μ-loop
-line-size-requires c κs = search needs
-
 line-in-requires : tie.Need-line-in-requires Inv-loop μ-loop
 line-in-requires c κs = search needs
 
 fill-requires : tie.Need-fill-requires Inv-loop μ-loop
 fill-requires c κs = search needs
 
+asks-requires : tie.Need-asks-requires Inv-loop μ-loop
+asks-requires c κs = search needs
+
 front-requires : tie.Need-front-requires Inv-loop μ-loop
 front-requires c κs = search needs
 
-reply-requires : tie.Need-reply-requires Inv-loop μ-loop
-reply-requires c κs = search needs
+check-requires : tie.Need-check-requires Inv-loop μ-loop
+check-requires c κs = search needs
+
+say-checked-requires : tie.Need-say-checked-requires Inv-loop μ-loop
+say-checked-requires c κs = search needs
+
+end-requires : tie.Need-end-requires Inv-loop μ-loop
+end-requires c κs = search needs
+
+line-size-requires : tie.Need-line-size-requires Inv-loop μ-loop
+line-size-requires c κs = search needs
 
 add-i : tie.Need-add-i Inv-loop μ-loop
 add-i c = search needs
@@ -51,9 +59,6 @@ loop-again c = search needs
 
 same-length : tie.Need-same-length Inv-loop μ-loop
 same-length c = search needs
-
-same-length-2 : tie.Need-same-length-2 Inv-loop μ-loop
-same-length-2 c = search needs
 
 returns : tie.Need-returns Inv-loop μ-loop
 returns c = search needs
@@ -68,14 +73,16 @@ run-spec =
     sub-rest
     part-rest-start
     part-rest-end
-    line-size-requires
     line-in-requires
     fill-requires
+    asks-requires
     front-requires
-    reply-requires
+    check-requires
+    say-checked-requires
+    end-requires
+    line-size-requires
     add-i
     loop-less
     loop-again
     same-length
-    same-length-2
     returns)

@@ -1,6 +1,6 @@
--- `check` is safe: the numbers that it lends are there.
-use lib.Seq.{length-take-le}
+-- `check` is safe: the room lies within the list lent.
 use mathlib.Core.Path.{sym}
+use lib.Seq.{length-take-le}
 use native.Mathlib.Omega.{arith}
 use borrow.Author.Needs.{needs}
 use Rattle.tievectors.proofs.check.Statement.{statement}
@@ -12,32 +12,26 @@ count-in-requires c κs = search needs
 number-of-requires : tie.Need-number-of-requires
 number-of-requires c κs = search needs
 
-slice-relend-prefix-push-checked : tie.Need-slice-relend-prefix-push-checked
-slice-relend-prefix-push-checked c = search needs
+slice-relend-prefix-check-by : tie.Need-slice-relend-prefix-check-by
+slice-relend-prefix-check-by c = search needs
 
-slice-aggregate-push-checked : tie.Need-slice-aggregate-push-checked
-slice-aggregate-push-checked c = sym (length-take-le _ _ (omega arith))
+slice-aggregate-check-by : tie.Need-slice-aggregate-check-by
+slice-aggregate-check-by c = sym (length-take-le _ _ (omega arith))
 
-push-checked-requires : tie.Need-push-checked-requires
-push-checked-requires c κs = search needs
+check-by-requires : tie.Need-check-by-requires
+check-by-requires c κs = search needs
 
 same-length : tie.Need-same-length
 same-length c = search needs
 
-same-length-2 : tie.Need-same-length-2
-same-length-2 c = search needs
-
 returns : tie.Need-returns
 returns c = search needs
 
-push-checked-requires-2 : tie.Need-push-checked-requires-2
-push-checked-requires-2 c κs = search needs
+check-by-requires-2 : tie.Need-check-by-requires-2
+check-by-requires-2 c κs = search needs
 
-same-length-3 : tie.Need-same-length-3
-same-length-3 c = search needs
-
-same-length-4 : tie.Need-same-length-4
-same-length-4 c = search needs
+same-length-2 : tie.Need-same-length-2
+same-length-2 c = search needs
 
 returns-2 : tie.Need-returns-2
 returns-2 c = search needs
@@ -48,13 +42,11 @@ check-spec =
     (tie.spec
     count-in-requires
     number-of-requires
-    slice-relend-prefix-push-checked
-    slice-aggregate-push-checked
-    push-checked-requires
+    slice-relend-prefix-check-by
+    slice-aggregate-check-by
+    check-by-requires
     same-length
-    same-length-2
     returns
-    push-checked-requires-2
-    same-length-3
-    same-length-4
+    check-by-requires-2
+    same-length-2
     returns-2)

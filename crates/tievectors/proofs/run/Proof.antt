@@ -7,11 +7,10 @@ use Rattle.tievectors.proofs.run.Statement.{statement}
 use Rattle.tievectors.proofs.run.Tie as tie
 
 abbrev Inv-loop : tie.InvT-loop
-Inv-loop text header₀ list₀ out₀ m₀ n₀ i₀ header list out m n i =
-    (i ≤ length text) × (length header ≡ length header₀) × (length list ≡ length list₀) × (length out ≡ length out₀)
+Inv-loop text header₀ list₀ m₀ i₀ header list m i = (i ≤ length text) × (length header ≡ length header₀) × (length list ≡ length list₀)
 
 abbrev μ-loop : tie.MeasureT-loop
-μ-loop text header₀ list₀ out₀ m₀ n₀ i₀ header list out m n i = length text - i
+μ-loop text header₀ list₀ m₀ i₀ header list m i = length text - i
 
 loop-holds : tie.Need-loop-holds Inv-loop μ-loop
 loop-holds c = search needs
@@ -25,9 +24,6 @@ part-rest-start c = search needs
 part-rest-end : tie.Need-part-rest-end Inv-loop μ-loop
 part-rest-end c = search needs
 
-line-size-requires : tie.Need-line-size-requires Inv-loop μ-loop
-line-size-requires c κs = search needs
-
 line-in-requires : tie.Need-line-in-requires Inv-loop μ-loop
 line-in-requires c κs = search needs
 
@@ -39,6 +35,9 @@ front-requires c κs = search needs
 
 reply-requires : tie.Need-reply-requires Inv-loop μ-loop
 reply-requires c κs = search needs
+
+line-size-requires : tie.Need-line-size-requires Inv-loop μ-loop
+line-size-requires c κs = search needs
 
 add-i : tie.Need-add-i Inv-loop μ-loop
 add-i c = search needs
@@ -55,9 +54,6 @@ same-length c = search needs
 same-length-2 : tie.Need-same-length-2 Inv-loop μ-loop
 same-length-2 c = search needs
 
-same-length-3 : tie.Need-same-length-3 Inv-loop μ-loop
-same-length-3 c = search needs
-
 returns : tie.Need-returns Inv-loop μ-loop
 returns c = search needs
 
@@ -71,15 +67,14 @@ run-spec =
     sub-rest
     part-rest-start
     part-rest-end
-    line-size-requires
     line-in-requires
     fill-requires
     front-requires
     reply-requires
+    line-size-requires
     add-i
     loop-less
     loop-again
     same-length
     same-length-2
-    same-length-3
     returns)
