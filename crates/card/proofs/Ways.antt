@@ -17,7 +17,7 @@ use Rattle.codes.specs.declared.Code.{Code}
 use Rattle.layout.specs.declared.Field.{Field}
 use Rattle.codes.specs.Codes.{codeOf}
 use Rattle.layout.specs.Layouts.{labelOf, fieldsOf}
-use Rattle.seeking.specs.Card.{firstBad}
+use Rattle.printable.specs.Bytes.{firstBad}
 use Rattle.judging.specs.Fields.{judgedOf, numberOf}
 use Rattle.card.specs.declared.Form.{Form}
 use Rattle.card.specs.declared.Form.the-variants as form

@@ -190,7 +190,7 @@ pub fn judge_by(card: &[u8], code: Code, form: Form) -> Verdict
     requires { ⌜ (length (now card) ≡ 80) × (code ≡ codeOf (take 5 (now card))) ⌝ }
     ensures { λ r. ⌜ r ≡ verdictOf (now (card .entry)) form ⌝ }
 {
-    let bad = seeking::first_bad(card);
+    let bad = printable::first_bad(card);
     if bad < CARD {
         return Verdict::Offence(4, bad + 1);
     }

@@ -26,8 +26,10 @@ use Rattle.layout.proofs.Numbers.{found-lies}
 use Rattle.judging.specs.declared.Judged.the-variants as judged
 use Rattle.field.specs.declared.FieldRead.the-variants as read
 use Rattle.seeking.specs.declared.Sought.the-variants as sought
-use Rattle.seeking.specs.Card.{coded, soughtOf, firstBad}
-use Rattle.judging.specs.Fields.{columnsOf, spellingOf, neededOn, valueOf, heldOf, judgedOf}
+use Rattle.seeking.specs.Card.{coded, soughtOf}
+use Rattle.printable.specs.Bytes.{firstBad}
+use Rattle.judging.specs.Fields.{spellingOf, valueOf, heldOf, judgedOf}
+use Rattle.needing.specs.Needs.{columnsOf, neededOn}
 use Rattle.field.specs.Reading.{answeredOf, fieldReading, holdsText, textOn, fieldText}
 use Rattle.seeking.proofs.Steps.{found-there, found-coded, sought-coded}
 use Rattle.field.proofs.Steps.{reading-is}

@@ -41,7 +41,8 @@ use Rattle.seeking.specs.declared.Refusal.{Refusal}
 use Rattle.seeking.specs.declared.Sought.{Sought}
 use Rattle.seeking.specs.declared.Sought.the-variants as sought
 use Rattle.seeking.specs.Card.{refusal, soughtOf}
-use Rattle.judging.specs.Fields.{spellingOf, secondAt, secondBy, columnsOf}
+use Rattle.judging.specs.Fields.{spellingOf}
+use Rattle.needing.specs.Needs.{secondAt, secondBy, columnsOf}
 use Rattle.entry.specs.declared.Entered.{Entered}
 use Rattle.entry.specs.declared.Entered.the-variants.{Done, Refused}
 use Rattle.entry.specs.Putting.{Putting, placed, stays, answerOf, leftBy, cameOf, width, placedIn, isAbsent, within, otherSecond, neededAfter, isOther, byEntry, valuePut, valueAt, textAt, puttingOf, puttingTextOf}

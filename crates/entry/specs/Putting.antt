@@ -17,7 +17,8 @@ use Rattle.seeking.specs.declared.Refusal.{Refusal}
 use Rattle.seeking.specs.declared.Sought.{Sought}
 use Rattle.seeking.specs.declared.Sought.the-variants as sought
 use Rattle.seeking.specs.Card.{refusal, soughtOf}
-use Rattle.judging.specs.Fields.{spellingOf, secondAt}
+use Rattle.judging.specs.Fields.{spellingOf}
+use Rattle.needing.specs.Needs.{secondAt}
 use Rattle.entry.specs.declared.Entered.{Entered}
 use Rattle.entry.specs.declared.Entered.the-variants.{Done, Refused}
 

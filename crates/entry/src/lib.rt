@@ -13,7 +13,8 @@ ghost use lib.Dec.{T};
 ghost use Rattle.layout.proofs.Columns.{ranged};
 ghost use Rattle.layout.specs.Layouts.{fieldsOf, fieldOf};
 ghost use Rattle.seeking.specs.Card.{refusal};
-ghost use Rattle.judging.specs.Fields.{spellingOf, secondBy};
+ghost use Rattle.judging.specs.Fields.{spellingOf};
+ghost use Rattle.needing.specs.Needs.{secondBy};
 ghost use Rattle.writing.specs.Writing.{entryOf, textEntryOf};
 ghost use Rattle.entry.specs.Putting.{cameOf, answerOf, leftBy, isAbsent, within, otherSecond, neededAfter, byEntry, width, valuePut, puttingOf, puttingTextOf};
 
@@ -77,7 +78,7 @@ fn other_second(card: &[u8], layout: usize, number: usize) -> bool
     let mut n = 0;
     while n < count {
         n += 1;
-        if (n != number) & judging::second_by(card, layout, n) {
+        if (n != number) & needing::second_by(card, layout, n) {
             return true;
         }
     }

@@ -18,7 +18,7 @@ use Rattle.layout.proofs.Columns.{Lies, after-label, ends-before}
 use Rattle.layout.proofs.Numbers.{numbered, found-lies}
 use Rattle.seeking.specs.declared.Sought.the-variants as sought
 use Rattle.seeking.specs.Card.{soughtOf}
-use Rattle.judging.specs.Fields.{columnsOf, isBlank, secondAt, anySecond}
+use Rattle.needing.specs.Needs.{columnsOf, isBlank, secondAt, anySecond}
 use Rattle.seeking.proofs.Steps.{found-there}
 use Rattle.entry.specs.Putting.{width, placedIn, otherSecond, neededAfter}
 use Rattle.entry.proofs.Back.{still-there, now-holds}

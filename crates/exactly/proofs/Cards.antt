@@ -17,7 +17,8 @@ use Rattle.codes.specs.declared.Code.{Code}
 use Rattle.codes.specs.declared.Code.the-variants as code
 use Rattle.codes.specs.Codes.{codeOf}
 use Rattle.seeking.specs.declared.Refusal.{Refusal}
-use Rattle.seeking.specs.Card.{refusal, firstBad}
+use Rattle.seeking.specs.Card.{refusal}
+use Rattle.printable.specs.Bytes.{firstBad}
 use Rattle.card.specs.declared.Form.{Form}
 use Rattle.opening.specs.declared.Opened.{Opened}
 use Rattle.opening.specs.declared.Opened.the-variants as opened

@@ -19,8 +19,10 @@ use Rattle.layout.specs.Table.{layouts, passedCodes}
 use Rattle.codes.specs.Codes.{byteFits, fitsAt, fits, codes, placeIn, codeAt, codeOf}
 use Rattle.layout.specs.Layouts.{layoutAt, fieldsOf}
 use Rattle.ranges.specs.Ranges.{inRange}
-use Rattle.seeking.specs.Card.{refusal, firstBad}
-use Rattle.judging.specs.Fields.{columnsOf, isBlank, spellingOf, anySecond}
+use Rattle.seeking.specs.Card.{refusal}
+use Rattle.printable.specs.Bytes.{firstBad}
+use Rattle.judging.specs.Fields.{spellingOf}
+use Rattle.needing.specs.Needs.{columnsOf, isBlank, anySecond}
 use Rattle.entry.specs.Putting.{placedIn}
 use Rattle.exactly.specs.Rows.{given}
 use Rattle.exactly.specs.Words.{fieldsOn, fieldAt, isNeeded, readingIn, blankedIn}

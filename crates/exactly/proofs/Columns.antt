@@ -24,7 +24,8 @@ use Rattle.layout.proofs.Columns.{inOrder, front, rest}
 use Rattle.seeking.specs.declared.Refusal.{Refusal}
 use Rattle.judging.specs.declared.Judged.the-variants as judged
 use Rattle.seeking.specs.Card.{refusal}
-use Rattle.judging.specs.Fields.{columnsOf, spellingOf, neededOn, valueOf, heldOf, judgedOf, numberOf}
+use Rattle.judging.specs.Fields.{spellingOf, valueOf, heldOf, judgedOf, numberOf}
+use Rattle.needing.specs.Needs.{columnsOf, neededOn}
 use Rattle.field.specs.Reading.{answeredOf}
 use Rattle.card.specs.declared.Form.{Form}
 use Rattle.card.specs.declared.Form.the-variants as form

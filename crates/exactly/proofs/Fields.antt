@@ -29,7 +29,8 @@ use Rattle.seeking.specs.declared.Sought.the-variants as sought
 use Rattle.field.specs.declared.FieldRead.{FieldRead}
 use Rattle.field.specs.declared.FieldRead.the-variants as read
 use Rattle.seeking.specs.Card.{refusal, soughtOf}
-use Rattle.judging.specs.Fields.{columnsOf, isBlank, spellingOf, anySecond, neededOn, valueOf, heldOf, judgedOf}
+use Rattle.judging.specs.Fields.{spellingOf, valueOf, heldOf, judgedOf}
+use Rattle.needing.specs.Needs.{columnsOf, isBlank, anySecond, neededOn}
 use Rattle.field.specs.Reading.{answeredOf, fieldOn, fieldReading}
 use Rattle.exactly.specs.Rows.{given, Exactly}
 use Rattle.exactly.specs.Words.{fieldsOn, fieldAt, isNeeded, readingIn, isMalformed, readsOutside}

@@ -25,8 +25,8 @@ use Rattle.layout.proofs.Places.{no-label}
 use Rattle.layout.proofs.Columns.{of-layout}
 use Rattle.codes.proofs.Walk.{is-unknown}
 use Rattle.codes.proofs.Apart.{Fits, in-each}
-use Rattle.seeking.specs.Card.{badAt, firstBad}
-use Rattle.seeking.proofs.Steps.{good-byte}
+use Rattle.printable.specs.Bytes.{badAt, firstBad}
+use Rattle.printable.proofs.Rows.{good-byte}
 use Rattle.seeking.proofs.Bytes.{bad-none}
 use Rattle.opening.specs.Opening.{labelled, newCard}
 use Rattle.exactly.specs.Words.{isUnknown}

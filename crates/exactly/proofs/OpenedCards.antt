@@ -23,7 +23,8 @@ use Rattle.layout.proofs.Every.{every, and-left, and-right}
 use Rattle.layout.proofs.Places.{has-fields}
 use Rattle.layout.proofs.Columns.{inOrder, front, rest, of-layout}
 use Rattle.judging.specs.declared.Judged.the-variants as judged
-use Rattle.judging.specs.Fields.{columnsOf, isBlank, spellingOf, anySecond, neededOn, valueOf, heldOf, judgedOf, numberOf}
+use Rattle.judging.specs.Fields.{spellingOf, valueOf, heldOf, judgedOf, numberOf}
+use Rattle.needing.specs.Needs.{columnsOf, isBlank, anySecond, neededOn}
 use Rattle.card.specs.declared.Form.{Form}
 use Rattle.card.specs.declared.Form.the-variants as form
 use Rattle.card.specs.declared.Verdict.{Verdict}

@@ -21,7 +21,8 @@ use Rattle.layout.proofs.Numbers.{numbered}
 use Rattle.seeking.specs.declared.Refusal.{Refusal}
 use Rattle.seeking.specs.declared.Sought.{Sought}
 use Rattle.seeking.specs.declared.Sought.the-variants.{Is, Refused}
-use Rattle.seeking.specs.Card.{refusal, firstBad, underForm, coded, soughtOf}
+use Rattle.seeking.specs.Card.{refusal, underForm, coded, soughtOf}
+use Rattle.printable.specs.Bytes.{firstBad}
 use Rattle.seeking.proofs.Steps.{found-there, found-coded}
 use Rattle.seeking.proofs.Bytes.{none-bad, bad-none}
 use Rattle.exactly.specs.Rows.{row, given}

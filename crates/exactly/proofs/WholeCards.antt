@@ -14,7 +14,7 @@ use Rattle.spelling.proofs.Absence.{zero-one}
 use Rattle.codes.specs.declared.Code.{Code}
 use Rattle.codes.specs.declared.Code.the-variants as code
 use Rattle.codes.specs.Codes.{codeOf}
-use Rattle.seeking.specs.Card.{badAt, firstBad}
+use Rattle.printable.specs.Bytes.{badAt, firstBad}
 use Rattle.seeking.proofs.Bytes.{none-bad}
 use Rattle.card.specs.declared.Form.{Form}
 use Rattle.card.specs.declared.Verdict.the-variants.{Fine, Offence}

@@ -7,7 +7,7 @@ use lib.ListN.{length, take}
 use Rattle.text.specs.Texts.{printable}
 use Rattle.codes.specs.declared.Code.the-variants.{Read, Passed, Unknown}
 use Rattle.codes.specs.Codes.{codeOf}
-use Rattle.seeking.specs.Card.{badAt}
+use Rattle.printable.specs.Bytes.{badAt}
 use Rattle.card.specs.declared.Form.{Form}
 use Rattle.card.specs.Judging.{offenceAt}
 

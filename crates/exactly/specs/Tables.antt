@@ -12,8 +12,9 @@ use Rattle.codes.specs.Codes.{codeOf}
 use Rattle.seeking.specs.declared.Refusal.{Refusal}
 use Rattle.field.specs.declared.FieldRead.{FieldRead}
 use Rattle.field.specs.declared.FieldRead.the-variants as read
-use Rattle.seeking.specs.Card.{refusal, firstBad}
-use Rattle.judging.specs.Fields.{columnsOf, isBlank}
+use Rattle.seeking.specs.Card.{refusal}
+use Rattle.printable.specs.Bytes.{firstBad}
+use Rattle.needing.specs.Needs.{columnsOf, isBlank}
 use Rattle.entry.specs.declared.Entered.{Entered}
 use Rattle.entry.specs.declared.Entered.the-variants as entered
 use Rattle.entry.specs.Putting.{isAbsent, width}

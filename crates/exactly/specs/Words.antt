@@ -27,7 +27,8 @@ use Rattle.layout.specs.declared.Field.{Field}
 use Rattle.codes.specs.Codes.{codeOf}
 use Rattle.layout.specs.Layouts.{fieldsOf, labelOf, noField}
 use Rattle.ranges.specs.Ranges.{inRange}
-use Rattle.judging.specs.Fields.{columnsOf, spellingOf, anySecond}
+use Rattle.judging.specs.Fields.{spellingOf}
+use Rattle.needing.specs.Needs.{columnsOf, anySecond}
 use Rattle.entry.specs.Putting.{isAbsent, within, width, placedIn}
 
 abbrev pub isUnknown : Code → Bool

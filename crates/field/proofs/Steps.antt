@@ -21,7 +21,8 @@ use Rattle.seeking.specs.declared.Way.{Way}
 use Rattle.seeking.specs.declared.Way.the-variants as way
 use Rattle.seeking.specs.Card.{soughtOf, wayFor}
 use Rattle.seeking.proofs.Steps.{way-refused}
-use Rattle.judging.specs.Fields.{columnsOf, judgedOf}
+use Rattle.judging.specs.Fields.{judgedOf}
+use Rattle.needing.specs.Needs.{columnsOf}
 use Rattle.field.specs.Reading.{answeredOf, fieldOn, fieldReading, holdsText, textOn, fieldText}
 
 -- what reading a field puts together

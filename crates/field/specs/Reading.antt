@@ -13,7 +13,8 @@ use Rattle.seeking.specs.declared.Sought.the-variants as sought
 use Rattle.field.specs.declared.FieldRead.{FieldRead}
 use Rattle.field.specs.declared.FieldRead.the-variants as read
 use Rattle.seeking.specs.Card.{refusal, soughtOf}
-use Rattle.judging.specs.Fields.{columnsOf, judgedOf}
+use Rattle.judging.specs.Fields.{judgedOf}
+use Rattle.needing.specs.Needs.{columnsOf}
 
 -- the offence of a field stands at its first column
 unfoldable pub answeredOf : Field → Judged → FieldRead

@@ -56,14 +56,6 @@ fn holds_text(j: Judged) -> bool
     if let Value::Text(_) = v { true } else { false }
 }
 
-// The columns of a field, as a part of the caller's own card.
-fn columns(card: &[u8], first: usize, last: usize) -> &[u8]
-    requires { ⌜ (1 ≤ first) × (first ≤ last) × (last ≤ length (now card)) ⌝ }
-    ensures { λ r. ⌜ now r ≡ take (last - (first - 1)) (drop (first - 1) (now (card .entry))) ⌝ }
-{
-    &card[first - 1..last]
-}
-
 // The text in the field with a number, as a part of the caller's own card; empty where there is none.
 pub fn read_text(card: &[u8], number: usize, form: usize) -> &[u8]
     ensures { λ r. ⌜ now r ≡ fieldText (now (card .entry)) number form ⌝ }
@@ -78,5 +70,5 @@ pub fn read_text(card: &[u8], number: usize, form: usize) -> &[u8]
     }
     let first = f.first;
     let last = f.last;
-    text::stretch(columns(card, first, last))
+    text::stretch(needing::columns(card, first, last))
 }

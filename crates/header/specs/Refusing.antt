@@ -8,7 +8,8 @@ use Rattle.lists.specs.Count.{first}
 use Rattle.codes.specs.declared.Code.{Code}
 use Rattle.codes.specs.declared.Code.the-variants as code
 use Rattle.codes.specs.Codes.{codeOf}
-use Rattle.seeking.specs.Card.{refusal, firstBad}
+use Rattle.seeking.specs.Card.{refusal}
+use Rattle.printable.specs.Bytes.{firstBad}
 use Rattle.card.specs.declared.Form.{Form}
 use Rattle.card.specs.declared.Verdict.{Verdict}
 use Rattle.card.specs.declared.Verdict.the-variants.{Fine, Offence}

@@ -82,7 +82,7 @@ fn judge_misplaced(card: &[u8], code: Code) -> Verdict
     requires { ⌜ (length (now card) ≡ 80) × (code ≡ codeOf (take 5 (now card))) ⌝ }
     ensures { λ r. ⌜ r ≡ readable (now (card .entry)) (Verdict.Offence 6 1) ⌝ }
 {
-    let bad = seeking::first_bad(card);
+    let bad = printable::first_bad(card);
     if bad < CARD {
         return Verdict::Offence(4, bad + 1);
     }

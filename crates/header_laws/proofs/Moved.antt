@@ -9,7 +9,7 @@ use mathlib.Core.Bool.{Bool, true, false, cond, _&&_}
 use lib.Dec.{eqb, ltb}
 use lib.ListN.{length, take}
 use Rattle.codes.specs.Codes.{codeOf}
-use Rattle.seeking.specs.Card.{firstBad}
+use Rattle.printable.specs.Bytes.{firstBad}
 use borrow.Author.Tests.{eq-eqb, ne-eqb, lt-ltb, le-ltb}
 use Rattle.lists.specs.Count.{count, first, Rearranged}
 use Rattle.lists.proofs.Counting.{count-none, count-one}

@@ -14,7 +14,7 @@ use Rattle.lists.proofs.Parting.{part-length}
 use Rattle.codes.specs.declared.Code.{Code}
 use Rattle.codes.specs.declared.Code.the-variants as code
 use Rattle.codes.specs.Codes.{codeOf}
-use Rattle.seeking.specs.Card.{firstBad}
+use Rattle.printable.specs.Bytes.{firstBad}
 use Rattle.card.specs.declared.Form.{Form}
 use Rattle.card.specs.declared.Verdict.the-variants.{Fine, Offence}
 use Rattle.card.specs.Judging.{offenceAt, verdictFrom, codeVerdict}

@@ -1,15 +1,12 @@
 -- What each way through judging a field finds.
-use Prim.Native.Nat.{ℕ, _+_, _-_, _≤_, _<_, min}
+use Prim.Native.Nat.{ℕ, _-_, _≤_, min}
 use native.Mathlib.Omega.{arith}
-use native.Mathlib.Numerals.{add-one}
 use mathlib.Core.Path.{_≡_, refl, sym, ap, _∙_}
 use mathlib.Core.List.{List}
 use mathlib.Core.Bool.{Bool, true, false, cond, _||_, not}
-use lib.ListN.{length, getD, take, drop, drop-of-length-le, length-take}
-use lib.Seq.{drop-cons}
+use lib.ListN.{length, take, drop, length-take}
 use lib.Dec.{eqb}
 use lib.IntN.{ℤ}
-use borrow.Author.Tests.{le-leb}
 use Rattle.number.specs.declared.Number.{Number}
 use Rattle.number.specs.declared.Number.the-variants as number
 use Rattle.number.specs.Reading.{numberOf}
@@ -31,61 +28,10 @@ use Rattle.spelling.specs.declared.Spelling.{Spelling}
 use Rattle.spelling.specs.declared.Spelling.the-variants as spelled
 use Rattle.spelling.specs.Reading.{textReading, wholeReading, decimalReading, dateReading, angleReading, readingOf}
 use Rattle.layout.specs.declared.Field.{Field}
-use Rattle.layout.specs.declared.Found.{Found}
-use Rattle.layout.specs.declared.Found.the-variants as found
-use Rattle.layout.specs.Layouts.{fieldOf, fieldsOf, noField}
 use Rattle.ranges.specs.Ranges.{inRange}
 use Rattle.judging.specs.declared.Judged.the-variants as judged
-use Rattle.judging.specs.Fields.{secondAt, secondBy, anySecond, columnsOf, isBlank, neededOn, readLast, valueOf, heldOf, spellingOf, judgedOf}
-
--- the second set, field by field
-second-more : (s : List ℕ) (fs : List Field) (n : ℕ) → n < length fs
-    → anySecond s (drop n fs) ≡ (secondAt s (getD fs n noField) || anySecond s (drop (n + 1) fs))
-unfolding anySecond
-second-more s fs n h = rw (drop-cons fs n noField h, add-one n)
-
-module _ (s : List ℕ) (k n : ℕ) (inside : n < length (fieldsOf k)) where
-  numbered : fieldOf k (n + 1) ≡ found.Is (getD (fieldsOf k) n noField)
-  unfolding fieldOf
-  numbered =
-      rw (le-leb 1 (n + 1) (omega arith), le-leb (n + 1) (length (fieldsOf k)) (omega arith))
-      (ap (λ j. found.Is (getD (fieldsOf k) j noField)) (omega arith))
-
-  by-number : secondBy s (fieldOf k (n + 1)) ≡ secondAt s (getD (fieldsOf k) n noField)
-  unfolding secondBy
-  by-number = rw numbered
-
-  pub second-found : secondBy s (fieldOf k (n + 1)) ≡ true → anySecond s (drop n (fieldsOf k)) ≡ true
-  second-found h = second-more s (fieldsOf k) n inside ∙ ap (λ b. b || anySecond s (drop (n + 1) (fieldsOf k))) (sym by-number ∙ h)
-
-  pub second-goes : secondBy s (fieldOf k (n + 1)) ≡ false → anySecond s (drop n (fieldsOf k)) ≡ anySecond s (drop (n + 1) (fieldsOf k))
-  second-goes h = second-more s (fieldsOf k) n inside ∙ ap (λ b. b || anySecond s (drop (n + 1) (fieldsOf k))) (sym by-number ∙ h)
-
-pub second-over : (s : List ℕ) (k n : ℕ) → length (fieldsOf k) ≤ n → anySecond s (drop n (fieldsOf k)) ≡ false
-unfolding anySecond
-second-over s k n h = rw (drop-of-length-le (fieldsOf k) h)
-
-pub second-none : (s : List ℕ) (o : Found) → o ≡ found.Nothing → secondBy s o ≡ false
-unfolding secondBy
-second-none s o q = rw q
-
-pub second-is : (s : List ℕ) (o : Found) (f : Field) → o ≡ found.Is f → secondBy s o ≡ secondAt s f
-unfolding secondBy
-second-is s o f q = rw q
-
--- whether a field is needed
-module _ (k : ℕ) (s : List ℕ) (f : Field) where
-  pub need-none : f .needed ≡ false → neededOn k s f ≡ false
-  unfolding neededOn
-  need-none h = rw h
-
-  pub need-first : f .needed ≡ true → f .second ≡ false → neededOn k s f ≡ true
-  unfolding neededOn
-  need-first h g = rw (h, g)
-
-  pub need-second : f .needed ≡ true → f .second ≡ true → neededOn k s f ≡ anySecond s (fieldsOf k)
-  unfolding neededOn
-  need-second h g = rw (h, g)
+use Rattle.needing.specs.Needs.{columnsOf, neededOn}
+use Rattle.judging.specs.Fields.{readLast, valueOf, heldOf, spellingOf, judgedOf}
 
 -- a text that was read ends in its columns
 module _ (s : List ℕ) where
@@ -141,15 +87,6 @@ module _ (s : List ℕ) where
   read-last spelled.Longitude = none (angle-last (angleOf X s))
   read-last spelled.Northing = none (decimal-last (gridOf Y s))
   read-last spelled.Easting = none (decimal-last (gridOf X s))
-
-module _ (s : List ℕ) (f : Field) where
-  pub second-first : f .second ≡ false → secondAt s f ≡ false
-  second-first h = rw h
-
-  pub second-columns : f .second ≡ true → (t : List ℕ) → t ≡ take (f .last - (f .first - 1)) (drop (f .first - 1) s)
-      → secondAt s f ≡ not (isBlank t)
-  unfolding columnsOf
-  second-columns h t q = rw (h, q)
 
 -- a value held against need and range
 module _ (needed : Bool) (f : Field) (v : Value) where

@@ -1,10 +1,7 @@
 -- What a field of a card says: its columns read by its spelling, and held against its need and its range.
 use Prim.Native.Nat.{ℕ, _+_, _-_}
-use mathlib.Core.List.{List, [], _∷_}
-use mathlib.Core.Bool.{Bool, true, false, cond, _&&_, _||_, not}
-use lib.ListN.{take, drop}
-use lib.Dec.{eqb}
-use Rattle.text.specs.Texts.{textEnd}
+use mathlib.Core.List.{List}
+use mathlib.Core.Bool.{Bool, true, false, cond}
 use Rattle.spelling.specs.declared.Value.{Value}
 use Rattle.spelling.specs.declared.Value.the-variants.{Absent, Whole, Decimal, Angle, Date, Text}
 use Rattle.spelling.specs.declared.Reading.{Reading}
@@ -15,19 +12,10 @@ use Rattle.spelling.specs.Reading.{refusalOf, readingOf}
 use Rattle.layout.specs.declared.Kind.{Kind}
 use Rattle.layout.specs.declared.Kind.the-variants as kind
 use Rattle.layout.specs.declared.Field.{Field}
-use Rattle.layout.specs.declared.Found.{Found}
-use Rattle.layout.specs.declared.Found.the-variants as found
-use Rattle.layout.specs.Layouts.{fieldsOf}
 use Rattle.ranges.specs.Ranges.{inRange}
+use Rattle.needing.specs.Needs.{columnsOf, neededOn}
 use Rattle.judging.specs.declared.Judged.{Judged}
 use Rattle.judging.specs.declared.Judged.the-variants.{Is, Not}
-
--- a field's columns
-unfoldable pub columnsOf : Field → List ℕ → List ℕ
-columnsOf f s = take (f .last - (f .first - 1)) (drop (f .first - 1) s)
-
-unfoldable pub isBlank : List ℕ → Bool
-isBlank t = eqb (textEnd t) 0
 
 -- the spelling of a kind, form 1 being true
 unfoldable pub spellingOf : Kind → Bool → Spelling
@@ -40,22 +28,6 @@ spellingOf kind.Latitude false = spelled.Latitude
 spellingOf kind.Latitude true = spelled.Northing
 spellingOf kind.Longitude false = spelled.Longitude
 spellingOf kind.Longitude true = spelled.Easting
-
--- a field of the second set that is not blank
-abbrev pub secondAt : List ℕ → Field → Bool
-secondAt s f = f .second && not (isBlank (columnsOf f s))
-
-unfoldable pub secondBy : List ℕ → Found → Bool
-secondBy s found.Nothing = false
-secondBy s (found.Is f) = secondAt s f
-
-unfoldable pub anySecond : List ℕ → List Field → Bool
-anySecond s [] = false
-anySecond s (f ∷ fs) = secondAt s f || anySecond s fs
-
--- a field is needed: of a second set only where that set is present
-unfoldable pub neededOn : ℕ → List ℕ → Field → Bool
-neededOn k s f = f .needed && (not (f .second) || anySecond s (fieldsOf k))
 
 -- a text's columns on the card
 abbrev pub onCard : Field → Value → Value

@@ -48,11 +48,11 @@ unfolding wordOf headOf
 zero-only zero = refl
 zero-only (suc q) = refl
 
-pub past-rows : (p q : ℕ) → Others 0 layoutCount p → 0 ≡ rowOf p q
+pub past-rows : (p q : ℕ) → layoutCount ≤ p → 0 ≡ rowOf p q
 unfolding rowOf fieldsOf
-past-rows p q o =
+past-rows p q h =
     zero-only q
-    ∙ ap (λ (l : Layout). getD (wordOf (l .code) ∷ map pack (l .fields)) q 0) (sym (past p (above 0 layoutCount p (omega arith) o)))
+    ∙ ap (λ (l : Layout). getD (wordOf (l .code) ∷ map pack (l .fields)) q 0) (sym (past p h))
 
 -- what the number of a field holds is the field
 

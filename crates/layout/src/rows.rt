@@ -1,6 +1,8 @@
 // The layout table as the code holds it: a block a code, a line a field; a new code is one more block behind the last. The check
-// compares all of it with the specification, and nothing else counts its codes or fields.
+// compares all of it with the specification, and nothing else counts its codes or fields. It stands in four pieces, since what
+// the check takes grows with the square of a piece.
 // A `match` whose arms are constants becomes constant data; an array would be written out anew wherever it is used.
+ghost use Prim.Native.Nat.{_≤_};
 ghost use mathlib.Core.Path.{_≡_};
 ghost use Rattle.layout.specs.Packed.{rowOf};
 
@@ -96,6 +98,16 @@ pub fn row_of(layout: usize, number: usize) -> u64
             1 => 0xc_0_06_80,
             _ => 0,
         },
+        _ => rows_from_h0100(layout, number),
+    }
+}
+
+// The rows from the layout of H0100 on.
+fn rows_from_h0100(layout: usize, number: usize) -> u64
+    requires { ⌜ 12 ≤ layout ⌝ }
+    ensures { λ r. ⌜ r ≡ rowOf layout number ⌝ }
+{
+    match layout {
         12 => match number {
             0 => 0x48_30_31_30_30, // H0100
             1 => 0xd_0_07_14,
@@ -160,6 +172,16 @@ pub fn row_of(layout: usize, number: usize) -> u64
             2 => 0xa_0_09_80,
             _ => 0,
         },
+        _ => rows_from_h2100(layout, number),
+    }
+}
+
+// The rows from the layout of H21@0 on.
+fn rows_from_h2100(layout: usize, number: usize) -> u64
+    requires { ⌜ 18 ≤ layout ⌝ }
+    ensures { λ r. ⌜ r ≡ rowOf layout number ⌝ }
+{
+    match layout {
         18 => match number {
             0 => 0x48_32_31_40_30, // H21@0
             1 => 0x1_000_000_000_1_1_07_09,
@@ -214,6 +236,16 @@ pub fn row_of(layout: usize, number: usize) -> u64
             9 => 0x2_000_001_000_1_2_59_59,
             _ => 0,
         },
+        _ => rows_from_h2300(layout, number),
+    }
+}
+
+// The rows from the layout of H2300 on.
+fn rows_from_h2300(layout: usize, number: usize) -> u64
+    requires { ⌜ 23 ≤ layout ⌝ }
+    ensures { λ r. ⌜ r ≡ rowOf layout number ⌝ }
+{
+    match layout {
         23 => match number {
             0 => 0x48_32_33_30_30, // H2300
             1 => 0xa_0_07_80,

@@ -34,7 +34,8 @@ use Rattle.layout.specs.declared.Field.{Field}
 use Rattle.layout.proofs.Columns.{width, wideAs}
 use Rattle.ranges.specs.Ranges.{inRange}
 use Rattle.judging.specs.declared.Judged.the-variants.{Is, Not}
-use Rattle.judging.specs.Fields.{columnsOf, isBlank, neededOn, valueOf, heldOf, spellingOf, judgedOf, numberOf}
+use Rattle.judging.specs.Fields.{valueOf, heldOf, spellingOf, judgedOf, numberOf}
+use Rattle.needing.specs.Needs.{columnsOf, isBlank, neededOn}
 use Rattle.offences.specs.Offences.{offenceIn, readOffence, coordinateReading}
 
 -- a text whose first column is filled

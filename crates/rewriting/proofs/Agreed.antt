@@ -26,7 +26,8 @@ use Rattle.judging.specs.declared.Judged.the-variants as judged
 use Rattle.field.specs.declared.FieldRead.the-variants as read
 use Rattle.seeking.specs.declared.Sought.the-variants as sought
 use Rattle.seeking.specs.Card.{soughtOf}
-use Rattle.judging.specs.Fields.{columnsOf, neededOn, onCard, valueOf, heldOf, judgedOf}
+use Rattle.judging.specs.Fields.{onCard, valueOf, heldOf, judgedOf}
+use Rattle.needing.specs.Needs.{columnsOf, neededOn}
 use Rattle.field.specs.Reading.{fieldReading, holdsText, fieldText}
 use Rattle.seeking.proofs.Steps.{found-there, found-coded}
 use Rattle.field.proofs.Steps.{text-is}

@@ -20,7 +20,8 @@ use Rattle.field.specs.declared.FieldRead.the-variants as read
 use Rattle.seeking.specs.declared.Sought.{Sought}
 use Rattle.seeking.specs.declared.Sought.the-variants as sought
 use Rattle.seeking.specs.Card.{refusal, soughtOf}
-use Rattle.judging.specs.Fields.{columnsOf, spellingOf, neededOn, valueOf, heldOf, judgedOf}
+use Rattle.judging.specs.Fields.{spellingOf, valueOf, heldOf, judgedOf}
+use Rattle.needing.specs.Needs.{columnsOf, neededOn}
 use Rattle.field.specs.Reading.{answeredOf, fieldOn, fieldReading}
 use Rattle.entry.specs.Putting.{Putting, placed, stays, width, placedIn, isAbsent, within, neededAfter, isOther, cameOf, byEntry}
 use Rattle.entry.specs.Putting.{valuePut, valueAt, textAt, puttingOf, puttingTextOf}

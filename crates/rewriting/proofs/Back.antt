@@ -26,7 +26,8 @@ use Rattle.field.specs.declared.FieldRead.the-variants as read
 use Rattle.judging.specs.declared.Judged.the-variants as judged
 use Rattle.seeking.specs.declared.Sought.the-variants as sought
 use Rattle.seeking.specs.Card.{soughtOf}
-use Rattle.judging.specs.Fields.{columnsOf, isBlank, neededOn, valueOf, heldOf, judgedOf}
+use Rattle.judging.specs.Fields.{valueOf, heldOf, judgedOf}
+use Rattle.needing.specs.Needs.{columnsOf, isBlank, neededOn}
 use Rattle.field.specs.Reading.{answeredOf}
 use Rattle.field.specs.Reading.{fieldReading, holdsText, fieldText}
 use Rattle.seeking.proofs.Steps.{found-there}

@@ -13,7 +13,7 @@ use Rattle.layout.specs.declared.Found.the-variants as found
 use Rattle.layout.specs.Layouts.{fieldsOf, fieldOf, noField}
 use Rattle.layout.proofs.Columns.{after-label, ends-before}
 use Rattle.layout.proofs.Numbers.{numbered}
-use Rattle.judging.specs.Fields.{columnsOf, isBlank, secondAt, anySecond, neededOn}
+use Rattle.needing.specs.Needs.{columnsOf, isBlank, secondAt, anySecond, neededOn}
 use Rattle.entry.specs.Putting.{otherSecond, neededAfter}
 use Rattle.entry.proofs.Untouched.{Outside}
 

@@ -12,7 +12,7 @@ use Rattle.digits.proofs.Bools.{and-left, and-right, and-both}
 use Rattle.lists.specs.Count.{first}
 use Rattle.lists.proofs.Finding.{first-le, first-below, first-none}
 use Rattle.text.specs.Texts.{printable}
-use Rattle.seeking.specs.Card.{badAt, firstBad}
+use Rattle.printable.specs.Bytes.{badAt, firstBad}
 
 -- a byte of printable bytes is none that is bad
 good-at : (s : List ℕ) (i : ℕ) → printable s ≡ true → i < length s → badAt s i ≡ false

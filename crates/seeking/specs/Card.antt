@@ -1,10 +1,10 @@
 -- What is asked of one card before its fields: its length, its bytes and its code.
-use Prim.Native.Nat.{ℕ, zero, suc, _+_}
+use Prim.Native.Nat.{ℕ, _+_}
 use mathlib.Core.List.{List}
-use mathlib.Core.Bool.{Bool, true, false, cond, _&&_, not}
-use lib.ListN.{length, getD, take}
-use lib.Dec.{eqb, leb, ltb}
-use Rattle.lists.specs.Count.{first}
+use mathlib.Core.Bool.{cond, not}
+use lib.ListN.{length, take}
+use lib.Dec.{eqb, ltb}
+use Rattle.printable.specs.Bytes.{firstBad}
 use Rattle.codes.specs.declared.Code.{Code}
 use Rattle.codes.specs.declared.Code.the-variants as code
 use Rattle.layout.specs.declared.Field.{Field}
@@ -22,27 +22,6 @@ use Rattle.seeking.specs.declared.Way.the-variants as way
 -- a refusal's number, card and column
 abbrev pub refusal : ℕ → ℕ → ℕ → Refusal
 refusal n card column = record { number = n; card = card; column = column }
-
--- a byte from 32 to 126
-abbrev pub goodAt : List ℕ → ℕ → Bool
-goodAt s i = leb 32 (getD s i 0) && leb (getD s i 0) 126
-
--- a byte outside
-abbrev pub badAt : List ℕ → ℕ → Bool
-badAt s i = not (goodAt s i)
-
--- in each of a card's five rows of sixteen bytes those up to a place are all within
-unfoldable pub goodTo : List ℕ → ℕ → Bool
-goodTo s zero = true
-goodTo s (suc i) = goodTo s i && (((goodAt s i && goodAt s (i + 16)) && (goodAt s (i + 32) && goodAt s (i + 48))) && goodAt s (i + 64))
-
--- a whole card with none outside
-unfoldable pub goodCard : List ℕ → Bool
-goodCard s = eqb (length s) 80 && goodTo s 16
-
--- the place, from 0, of the first such byte, or the length
-unfoldable pub firstBad : List ℕ → ℕ
-firstBad s = first (badAt s) (length s)
 
 -- the field with a number, under a form that must be 0 or 1
 unfoldable pub underForm : ℕ → ℕ → Found → Sought

@@ -2,10 +2,8 @@
 use codes::Code;
 use layout::Field;
 ghost use mathlib.Core.Path.{_≡_};
-ghost use Prim.Native.Nat.{_<_};
-ghost use lib.ListN.{length};
 ghost use Rattle.layout.specs.Layouts.{fieldOf};
-ghost use Rattle.seeking.specs.Card.{refusal, goodAt, goodCard, firstBad, underForm, soughtOf, wayFor};
+ghost use Rattle.seeking.specs.Card.{refusal, underForm, soughtOf, wayFor};
 
 const CARD: usize = 80;
 
@@ -41,55 +39,6 @@ fn refused(number: usize, card: usize, column: usize) -> Way
     })
 }
 
-// Whether a byte is printable.
-fn good_at(s: &[u8], i: usize) -> bool
-    requires { ⌜ i < length (now s) ⌝ }
-    ensures { λ r. ⌜ r ≡ goodAt (now (s .entry)) i ⌝ }
-{
-    let b = s[i];
-    (32 <= b) & (b <= 126)
-}
-
-// Whether a card is whole and all its bytes printable, looked at in five rows of sixteen: no byte ends the loop early, so that
-// it takes a row at a time.
-fn all_good(s: &[u8]) -> bool
-    ensures { λ r. ⌜ r ≡ goodCard (now (s .entry)) ⌝ }
-{
-    if s.len() != CARD {
-        return false;
-    }
-    let mut good = true;
-    let mut i = 0;
-    while i < 16 {
-        let first = good_at(s, i) & good_at(s, i + 16);
-        let next = good_at(s, i + 32) & good_at(s, i + 48);
-        good = good & (first & next & good_at(s, i + 64));
-        i += 1;
-    }
-    good
-}
-
-// The place of the first byte that is not printable, or the length.
-pub fn first_bad(s: &[u8]) -> usize
-    ensures { λ r. ⌜ r ≡ firstBad (now (s .entry)) ⌝ }
-{
-    if all_good(s) {
-        return CARD;
-    }
-    let mut i = 0;
-    while i < s.len() {
-        let b = s[i];
-        if b < 32 {
-            return i;
-        }
-        if 126 < b {
-            return i;
-        }
-        i += 1;
-    }
-    i
-}
-
 // The field with a number in a layout, under a form.
 fn under_form(layout: usize, number: usize, form: usize) -> Way
     ensures { λ r. ⌜ r ≡ wayFor number (underForm layout form (fieldOf layout number)) ⌝ }
@@ -117,7 +66,7 @@ pub fn seek(card: &[u8], number: usize, form: usize) -> Way
     if card.len() != CARD {
         return refused(2, 0, 0);
     }
-    let bad = first_bad(card);
+    let bad = printable::first_bad(card);
     if bad < CARD {
         return refused(4, 1, bad + 1);
     }

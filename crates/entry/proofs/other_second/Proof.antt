@@ -1,6 +1,6 @@
 use Rattle.entry.proofs.Steps.{other-is, other-over}
 use Rattle.entry.specs.Putting.{otherSecond}
-use Rattle.judging.specs.Fields.{secondBy}
+use Rattle.needing.specs.Needs.{secondBy}
 use Rattle.layout.specs.Layouts.{fieldsOf, fieldOf}
 use lib.Dec.{eqb}
 use lib.ListN.{length, drop}
@@ -14,7 +14,7 @@ use Rattle.entry.proofs.other_second.Statement.{statement}
 use Rattle.entry.proofs.other_second.Tie as tie
 use Rattle.entry.proofs.other_second.Reads as reads
 use Rattle.entry.proofs.other_second.Lts as lts
-use Rattle.judging.proofs.second_by.Reads as second-by-reads
+use Rattle.needing.proofs.second_by.Reads as second-by-reads
 
 abbrev Inv-loop : tie.InvT-loop
 Inv-loop card layout number count n₀ n = (n ≤ length (fieldsOf layout)) × (otherSecond card number 1 (fieldsOf layout) ≡ otherSecond card number (n + 1) (drop n (fieldsOf layout)))

@@ -1,4 +1,5 @@
-use Rattle.judging.specs.Fields.{heldOf, neededOn, spellingOf, columnsOf}
+use Rattle.judging.specs.Fields.{heldOf, spellingOf}
+use Rattle.needing.specs.Needs.{neededOn, columnsOf}
 use Rattle.spelling.specs.Reading.{readingOf}
 use lib.ListN.{length, length-take, length-drop}
 use Prim.Native.Nat.{_-_, _≤_}
@@ -12,9 +13,9 @@ use Rattle.judging.proofs.judge.Statement.{statement}
 use Rattle.judging.proofs.judge.Tie as tie
 use Rattle.judging.proofs.judge.Reads as reads
 use Rattle.judging.proofs.judge.Lts as lts
-use Rattle.judging.proofs.columns.Reads as columns-reads
+use Rattle.needing.proofs.columns.Reads as columns-reads
 use Rattle.judging.proofs.held_of.Reads as held-of-reads
-use Rattle.judging.proofs.needed_on.Reads as needed-on-reads
+use Rattle.needing.proofs.needed_on.Reads as needed-on-reads
 use Rattle.judging.proofs.spelling_of.Reads as spelling-of-reads
 use Rattle.spelling.proofs.read.Reads as read-reads
 

@@ -3,7 +3,7 @@ use denote.Ref.{now}
 use mathlib.Core.Path.{refl, sym, ap, _∙_}
 use native.Mathlib.Omega.{arith}
 use Rattle.layout.specs.Packed.{unpack}
-use Rattle.judging.specs.Fields.{neededOn}
+use Rattle.needing.specs.Needs.{neededOn}
 use Rattle.offences.proofs.Offences.{offence-other, offence-missing, offence-none, columns-some, columns-wide}
 use borrow.Author.Needs.{needs}
 use Rattle.offences.proofs.offence.Statement.{statement}

@@ -9,7 +9,7 @@ use Rattle.seeking.proofs.seek.Statement.{statement}
 use Rattle.seeking.proofs.seek.Tie as tie
 use Rattle.seeking.proofs.seek.Reads as reads
 use Rattle.seeking.proofs.seek.Lts as lts
-use Rattle.seeking.proofs.first_bad.Reads as first-bad-reads
+use Rattle.printable.proofs.first_bad.Reads as first-bad-reads
 use Rattle.seeking.proofs.refused.Reads as refused-reads
 use Rattle.seeking.proofs.under_form.Reads as under-form-reads
 use Rattle.codes.proofs.code_of.Reads as code-of-reads

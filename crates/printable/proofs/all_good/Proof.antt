@@ -1,14 +1,14 @@
--- `seeking::all_good` meets its contract.
-use Rattle.seeking.proofs.Steps.{good-more, not-whole, whole-good}
-use Rattle.seeking.specs.Card.{goodTo}
+-- `printable::all_good` meets its contract.
+use Rattle.printable.proofs.Rows.{good-more, not-whole, whole-good}
+use Rattle.printable.specs.Bytes.{goodTo}
 use lib.ListN.{length}
 use Prim.Native.Nat.{_≤_, _-_}
 use denote.Ref.{now}
 use mathlib.Core.Path.{_≡_, refl, ap, _∙_}
 use native.Mathlib.Omega.{arith}
 use borrow.Author.Needs.{needs}
-use Rattle.seeking.proofs.all_good.Statement.{statement}
-use Rattle.seeking.proofs.all_good.Tie as tie
+use Rattle.printable.proofs.all_good.Statement.{statement}
+use Rattle.printable.proofs.all_good.Tie as tie
 
 abbrev Inv-loop : tie.InvT-loop
 Inv-loop s good₀ i₀ good i = (i ≤ 16) × (good ≡ goodTo s i)

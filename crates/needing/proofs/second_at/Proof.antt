@@ -1,17 +1,17 @@
-use Rattle.judging.proofs.Steps.{second-first, second-columns}
-use Rattle.judging.specs.Fields.{secondAt, columnsOf, isBlank}
+use Rattle.needing.proofs.Steps.{second-first, second-columns}
+use Rattle.needing.specs.Needs.{secondAt, columnsOf, isBlank}
 use borrow.Author.Tests.{not-true, not-false}
 use mathlib.Core.Bool.{not, _&&_, false, true}
 use denote.Ref.{now}
 use mathlib.Core.Path.{_≡_, refl, sym, ap, _∙_}
 use native.Mathlib.Omega.{arith}
 use borrow.Author.Needs.{needs}
-use Rattle.judging.proofs.second_at.Statement.{statement}
-use Rattle.judging.proofs.second_at.Tie as tie
-use Rattle.judging.proofs.second_at.Reads as reads
-use Rattle.judging.proofs.second_at.Lts as lts
-use Rattle.judging.proofs.columns.Reads as columns-reads
-use Rattle.judging.proofs.is_blank.Reads as is-blank-reads
+use Rattle.needing.proofs.second_at.Statement.{statement}
+use Rattle.needing.proofs.second_at.Tie as tie
+use Rattle.needing.proofs.second_at.Reads as reads
+use Rattle.needing.proofs.second_at.Lts as lts
+use Rattle.needing.proofs.columns.Reads as columns-reads
+use Rattle.needing.proofs.is_blank.Reads as is-blank-reads
 
 -- src/lib.rt:158:9
 returns : tie.Need-returns

@@ -1,5 +1,5 @@
-use Rattle.judging.proofs.Steps.{second-found, second-goes, second-over}
-use Rattle.judging.specs.Fields.{anySecond, secondBy}
+use Rattle.needing.proofs.Steps.{second-found, second-goes, second-over}
+use Rattle.needing.specs.Needs.{anySecond, secondBy}
 use Rattle.layout.specs.Layouts.{fieldsOf, fieldOf}
 use lib.ListN.{length, drop}
 use Prim.Native.Nat.{_≤_, _-_, _+_}
@@ -7,11 +7,11 @@ use denote.Ref.{now}
 use mathlib.Core.Path.{_≡_, refl, sym, ap, _∙_}
 use native.Mathlib.Omega.{arith}
 use borrow.Author.Needs.{needs}
-use Rattle.judging.proofs.any_second.Statement.{statement}
-use Rattle.judging.proofs.any_second.Tie as tie
-use Rattle.judging.proofs.any_second.Reads as reads
-use Rattle.judging.proofs.any_second.Lts as lts
-use Rattle.judging.proofs.second_by.Reads as second-by-reads
+use Rattle.needing.proofs.any_second.Statement.{statement}
+use Rattle.needing.proofs.any_second.Tie as tie
+use Rattle.needing.proofs.any_second.Reads as reads
+use Rattle.needing.proofs.any_second.Lts as lts
+use Rattle.needing.proofs.second_by.Reads as second-by-reads
 
 abbrev Inv-loop : tie.InvT-loop
 Inv-loop card layout count n₀ n = (n ≤ length (fieldsOf layout)) × (anySecond card (fieldsOf layout) ≡ anySecond card (drop n (fieldsOf layout)))

@@ -1,5 +1,5 @@
-use Rattle.seeking.proofs.Steps.{all-good, bad-below, bad-above, good-byte}
-use Rattle.seeking.specs.Card.{badAt, firstBad}
+use Rattle.printable.proofs.Rows.{all-good, bad-below, bad-above, good-byte}
+use Rattle.printable.specs.Bytes.{badAt, firstBad}
 use Rattle.lists.proofs.Finding.{begins, stops, goes, over}
 use Rattle.lists.specs.Count.{firstFrom}
 use lib.ListN.{length}
@@ -8,10 +8,10 @@ use denote.Ref.{now}
 use mathlib.Core.Path.{_≡_, refl, sym, ap, _∙_}
 use native.Mathlib.Omega.{arith}
 use borrow.Author.Needs.{needs}
-use Rattle.seeking.proofs.first_bad.Statement.{statement}
-use Rattle.seeking.proofs.first_bad.Tie as tie
-use Rattle.seeking.proofs.first_bad.Reads as reads
-use Rattle.seeking.proofs.first_bad.Lts as lts
+use Rattle.printable.proofs.first_bad.Statement.{statement}
+use Rattle.printable.proofs.first_bad.Tie as tie
+use Rattle.printable.proofs.first_bad.Reads as reads
+use Rattle.printable.proofs.first_bad.Lts as lts
 
 abbrev Inv-loop : tie.InvT-loop
 Inv-loop s i₀ i = (i ≤ length s) × (firstBad s ≡ firstFrom (badAt s) (length s - i) i)

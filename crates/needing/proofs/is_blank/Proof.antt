@@ -1,14 +1,14 @@
-use Rattle.judging.specs.Fields.{isBlank}
+use Rattle.needing.specs.Needs.{isBlank}
 use lib.Dec.{eqb}
 use mathlib.Core.Bool.{Bool}
 use denote.Ref.{now}
 use mathlib.Core.Path.{_≡_, refl, sym, ap, _∙_}
 use native.Mathlib.Omega.{arith}
 use borrow.Author.Needs.{needs}
-use Rattle.judging.proofs.is_blank.Statement.{statement}
-use Rattle.judging.proofs.is_blank.Tie as tie
-use Rattle.judging.proofs.is_blank.Reads as reads
-use Rattle.judging.proofs.is_blank.Lts as lts
+use Rattle.needing.proofs.is_blank.Statement.{statement}
+use Rattle.needing.proofs.is_blank.Tie as tie
+use Rattle.needing.proofs.is_blank.Reads as reads
+use Rattle.needing.proofs.is_blank.Lts as lts
 use Rattle.text.proofs.text_end.Reads as text-end-reads
 
 -- src/lib.rt:124:5

@@ -1,8 +1,8 @@
--- `seeking::good_at` meets its contract.
+-- `printable::good_at` meets its contract.
 use mathlib.Core.Path.{refl}
 use borrow.Author.Needs.{needs}
-use Rattle.seeking.proofs.good_at.Statement.{statement}
-use Rattle.seeking.proofs.good_at.Tie as tie
+use Rattle.printable.proofs.good_at.Statement.{statement}
+use Rattle.printable.proofs.good_at.Tie as tie
 
 shared-slice-read-b : tie.Need-shared-slice-read-b
 shared-slice-read-b c = search needs

@@ -1,14 +1,14 @@
-use Rattle.judging.proofs.Steps.{need-none, need-first, need-second}
+use Rattle.needing.proofs.Steps.{need-none, need-first, need-second}
 use borrow.Author.Tests.{not-true, not-false}
 use denote.Ref.{now}
 use mathlib.Core.Path.{_≡_, refl, sym, ap, _∙_}
 use native.Mathlib.Omega.{arith}
 use borrow.Author.Needs.{needs}
-use Rattle.judging.proofs.needed_on.Statement.{statement}
-use Rattle.judging.proofs.needed_on.Tie as tie
-use Rattle.judging.proofs.needed_on.Reads as reads
-use Rattle.judging.proofs.needed_on.Lts as lts
-use Rattle.judging.proofs.any_second.Reads as any-second-reads
+use Rattle.needing.proofs.needed_on.Statement.{statement}
+use Rattle.needing.proofs.needed_on.Tie as tie
+use Rattle.needing.proofs.needed_on.Reads as reads
+use Rattle.needing.proofs.needed_on.Lts as lts
+use Rattle.needing.proofs.any_second.Reads as any-second-reads
 
 -- src/lib.rt:199:9
 returns : tie.Need-returns

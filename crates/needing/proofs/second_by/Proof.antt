@@ -1,14 +1,14 @@
-use Rattle.judging.proofs.Steps.{second-none, second-is}
+use Rattle.needing.proofs.Steps.{second-none, second-is}
 use Rattle.layout.proofs.Numbers.{found-lies}
 use denote.Ref.{now}
 use mathlib.Core.Path.{_≡_, refl, sym, ap, _∙_}
 use native.Mathlib.Omega.{arith}
 use borrow.Author.Needs.{needs}
-use Rattle.judging.proofs.second_by.Statement.{statement}
-use Rattle.judging.proofs.second_by.Tie as tie
-use Rattle.judging.proofs.second_by.Reads as reads
-use Rattle.judging.proofs.second_by.Lts as lts
-use Rattle.judging.proofs.second_at.Reads as second-at-reads
+use Rattle.needing.proofs.second_by.Statement.{statement}
+use Rattle.needing.proofs.second_by.Tie as tie
+use Rattle.needing.proofs.second_by.Reads as reads
+use Rattle.needing.proofs.second_by.Lts as lts
+use Rattle.needing.proofs.second_at.Reads as second-at-reads
 
 -- src/lib.rt:170:9
 field-of-requires : tie.Need-field-of-requires
