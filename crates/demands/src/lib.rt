@@ -1,5 +1,4 @@
 // What a field asks for, told where its columns are refused with 9, 10 or 11.
-use card::Form;
 use layout::Field;
 use layout::Found;
 use layout::Kind;
@@ -27,145 +26,6 @@ fn number_at(layout: usize, column: usize) -> usize {
         }
     }
     0
-}
-
-// Whether a card's coordinates are a number and a letter.
-fn is_grid(header: &[u8], card: &[u8], layout: usize) -> bool {
-    let notes = forms::notes_of(header);
-    let form = forms::form_by(&notes, layout, card);
-    match form {
-        Form::Grid => true,
-        Form::Angles => false,
-        Form::Unknown => false,
-    }
-}
-
-// Puts a field's columns, the first letter as it is given.
-fn push_span(out: &mut [u8], n: usize, letter: u8, first: usize, last: usize) -> usize {
-    let begun = sheet::push(out, n, letter);
-    if first == last {
-        return sheet::push_form(out, begun, b"olumn #", first as u64, 0, 0);
-    }
-    sheet::push_form(out, begun, b"olumns # to #", first as u64, last as u64, 0)
-}
-
-// Puts that a field's columns do not hold what follows.
-fn push_lacks(out: &mut [u8], n: usize, first: usize, last: usize) -> usize {
-    let span = push_span(out, n, b'C', first, last);
-    if first == last {
-        return sheet::push_all(out, span, b" does not hold ");
-    }
-    sheet::push_all(out, span, b" do not hold ")
-}
-
-// Puts a whole number, which is a digit where there is one column only.
-fn push_whole(out: &mut [u8], n: usize, first: usize, last: usize) -> usize {
-    if first == last {
-        return sheet::push_all(out, n, b"a digit.");
-    }
-    sheet::push_form(
-        out,
-        n,
-        b"a whole number that ends in column #.",
-        last as u64,
-        0,
-        0,
-    )
-}
-
-// Puts a coordinate: words for an angle, or for a number that ends before the last column.
-fn push_coordinate(
-    out: &mut [u8],
-    n: usize,
-    grid: bool,
-    last: usize,
-    angle: &[u8],
-    metres: &[u8],
-) -> usize {
-    if !grid {
-        return sheet::push_all(out, n, angle);
-    }
-    if last == 0 {
-        return n;
-    }
-    sheet::push_form(out, n, metres, (last - 1) as u64, 0, 0)
-}
-
-// Puts what a field has to hold.
-fn push_wanted(
-    out: &mut [u8],
-    n: usize,
-    kind: Kind,
-    first: usize,
-    last: usize,
-    grid: bool,
-) -> usize {
-    match kind {
-        Kind::Text => n,
-        Kind::Comment => n,
-        Kind::Whole => push_whole(out, n, first, last),
-        Kind::Decimal => {
-            sheet::push_form(
-                out,
-                n,
-                b"a number that ends in column #.",
-                last as u64,
-                0,
-                0,
-            )
-        }
-        Kind::Date => sheet::push_all(out, n, b"a date of eight digits, YYYYMMDD."),
-        Kind::Latitude => push_coordinate(
-            out,
-            n,
-            grid,
-            last,
-            b"a latitude dddmmss.sss with N or S.",
-            b"a northing: a number that ends in column #, and the letter N behind it.",
-        ),
-        Kind::Longitude => push_coordinate(
-            out,
-            n,
-            grid,
-            last,
-            b"a longitude dddmmss.sss with E or W.",
-            b"an easting: a number that ends in column #, and the letter E behind it.",
-        ),
-    }
-}
-
-// 9 in a text: it does not begin where it has to.
-fn push_late(out: &mut [u8], n: usize, first: usize, last: usize) -> usize {
-    let words = sheet::push_all(out, n, b"The text in ");
-    let span = push_span(out, words, b'c', first, last);
-    sheet::push_form(
-        out,
-        span,
-        b" does not begin in column #.",
-        first as u64,
-        0,
-        0,
-    )
-}
-
-fn is_text(kind: Kind) -> bool {
-    match kind {
-        Kind::Text => true,
-        Kind::Comment => true,
-        _ => false,
-    }
-}
-
-// 9: what the columns do not hold.
-fn push_malformed(out: &mut [u8], n: usize, f: Field, grid: bool) -> usize {
-    let first = f.first;
-    let last = f.last;
-    let kind = f.kind;
-    if is_text(kind) {
-        return push_late(out, n, first, last);
-    }
-    let lacks = push_lacks(out, n, first, last);
-    push_wanted(out, lacks, kind, first, last, grid)
 }
 
 // Puts the numbers from one to another.
@@ -203,7 +63,7 @@ fn push_outside(out: &mut [u8], n: usize, f: Field) -> usize {
     let first = f.first;
     let last = f.last;
     let words = push_value(out, n, kind);
-    let span = push_span(out, words, b'c', first, last);
+    let span = wants::push_span(out, words, b'c', first, last);
     match kind {
         Kind::Date => sheet::push_all(out, span, b" is not in the calendar."),
         Kind::Latitude => sheet::push_all(
@@ -234,29 +94,29 @@ fn push_missing(out: &mut [u8], n: usize, f: Field, layout: usize) -> usize {
     let last = f.last;
     if f.second {
         let words = push_second(out, n, layout);
-        let span = push_span(out, words, b'c', first, last);
+        let span = wants::push_span(out, words, b'c', first, last);
         return sheet::push_all(out, span, b": something else of it is filled in.");
     }
-    let span = push_span(out, n, b'C', first, last);
+    let span = wants::push_span(out, n, b'C', first, last);
     sheet::push_all(out, span, b" may not be blank.")
 }
 
-// Puts what is wrong with the field of a card that begins in a column, by the number of the refusal.
+// Puts what is wrong with the field of a layout that begins in a column, by the number of the refusal; in grid's form its
+// coordinates are a number and a letter.
 pub fn push_field(
     out: &mut [u8],
     n: usize,
-    header: &[u8],
-    card: &[u8],
+    layout: usize,
+    grid: bool,
     number: usize,
     column: usize,
 ) -> usize {
-    let layout = forms::layout_of(card);
     let found = finding::field_of(layout, number_at(layout, column));
     let Found::Is(f) = found else {
         return n;
     };
     match number {
-        9 => push_malformed(out, n, f, is_grid(header, card, layout)),
+        9 => wants::push_malformed(out, n, f, grid),
         10 => push_outside(out, n, f),
         11 => push_missing(out, n, f, layout),
         _ => n,

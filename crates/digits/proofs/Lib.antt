@@ -4,3 +4,4 @@ pub mod Parts
 pub mod Answers
 pub mod Numbers
 pub mod Bools
+pub mod Blank

@@ -11,9 +11,9 @@ use Rattle.number.specs.declared.Decimal.{Decimal as Units}
 use Rattle.signs.specs.Signs.{isMinus}
 use Rattle.numerals.specs.Spelling.{signColumns, pointColumns}
 use Rattle.date.specs.Calendar.{isDate}
-use Rattle.position.specs.declared.Axis.{Axis}
-use Rattle.position.specs.declared.Axis.the-variants.{Y, X}
-use Rattle.position.specs.Axes.{boundOf}
+use Rattle.axes.specs.declared.Axis.{Axis}
+use Rattle.axes.specs.declared.Axis.the-variants.{Y, X}
+use Rattle.axes.specs.Axes.{boundOf}
 use Rattle.spelling.specs.declared.Value.{Value}
 use Rattle.spelling.specs.declared.Value.the-variants.{Absent, Whole, Decimal, Angle, Date, Text}
 use Rattle.spelling.specs.declared.Reading.{Reading}

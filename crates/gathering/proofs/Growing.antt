@@ -17,7 +17,7 @@ use Rattle.keys.specs.Lines.{packedBy, vesselBy}
 use Rattle.tying.specs.Columns.{canTie, tieColumns}
 use Rattle.tying.proofs.Tied.{idle, Idle, none-behind}
 use Rattle.tally.specs.Chains.{room, buckets, Linked}
-use Rattle.tally.proofs.Adding.{zeros-linked}
+use Rattle.adding.proofs.Adding.{zeros-linked}
 use Rattle.gathering.specs.Numbers.{numberOn, tagOn, numberAt, tagAt, passing}
 use Rattle.gathering.specs.Gathered.{Test, Sparing, entriesPassing, columnPasses, onColumn, onSlots, Grown, Gathered}
 use Rattle.gathering.proofs.Slots.{none-at-zero, by-slots}

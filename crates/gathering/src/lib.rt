@@ -53,7 +53,7 @@ fn gather_column(
         return n;
     }
     let tag = tag_of(card, layout);
-    tally::add(numbers, tags, heads, next, times, n, number, tag);
+    adding::add(numbers, tags, heads, next, times, n, number, tag);
     n + 1
 }
 

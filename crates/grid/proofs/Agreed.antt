@@ -15,9 +15,9 @@ use Rattle.number.specs.declared.Decimal.{Decimal}
 use Rattle.number.specs.declared.Number.{Number}
 use Rattle.number.specs.declared.Number.the-variants.{Absent as Missing, Held as Holds, Malformed as Odd, OutOfRange as Outside}
 use Rattle.numerals.proofs.Agreed.{decimal-agreed}
-use Rattle.position.specs.Axes.{letterOf}
+use Rattle.axes.specs.Axes.{letterOf}
 use Rattle.grid.specs.Grid.{presentOf, gridOf, gridIn}
-use Rattle.position.specs.declared.Axis.{Axis}
+use Rattle.axes.specs.declared.Axis.{Axis}
 
 -- a number that is there
 number-there : (n : Number) (d : Decimal) → presentOf n ≡ Holds d → n ≡ Holds d

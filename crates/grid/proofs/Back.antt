@@ -17,11 +17,11 @@ use Rattle.numerals.specs.Spelling.{decimalIn}
 use Rattle.number.specs.declared.Decimal.{Decimal}
 use Rattle.numerals.proofs.Back.{number-back}
 use Rattle.number.specs.declared.Number.the-variants.{Held as Holds}
-use Rattle.position.specs.Axes.{letterOf}
+use Rattle.axes.specs.Axes.{letterOf}
 use Rattle.grid.specs.Grid.{presentOf, gridOf, lettered, gridIn}
-use Rattle.position.specs.declared.Axis.{Axis}
-use Rattle.position.proofs.Filled.{blank-at}
-use Rattle.position.proofs.Letters.{letter-blank}
+use Rattle.axes.specs.declared.Axis.{Axis}
+use Rattle.digits.proofs.Blank.{blank-at}
+use Rattle.axes.proofs.Letters.{letter-blank}
 
 -- a number with its letter
 grid-read : (a : Axis) (d : Decimal) (u : List ℕ) → numberOf true u ≡ Holds d → gridOf a (u ++ (letterOf a false ∷ [])) ≡ Holds d

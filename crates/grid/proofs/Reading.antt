@@ -10,9 +10,9 @@ use Rattle.digits.specs.Figures.{blanks}
 use Rattle.number.specs.Reading.{numberOf}
 use Rattle.number.specs.declared.Number.{Number}
 use Rattle.number.specs.declared.Number.the-variants.{Absent as NoNumber, Malformed as Odd}
-use Rattle.position.specs.Axes.{letterOf}
+use Rattle.axes.specs.Axes.{letterOf}
 use Rattle.grid.specs.Grid.{presentOf, gridOf}
-use Rattle.position.specs.declared.Axis.{Axis}
+use Rattle.axes.specs.declared.Axis.{Axis}
 
 module _ (a : Axis) (s : List ℕ) (at : ℕ) (e : at ≡ blanks s) where
   pub grid-absent : at ≡ length s → NoNumber ≡ gridOf a s

@@ -12,10 +12,10 @@ use Rattle.digits.specs.declared.Written.the-variants.{NoRoom}
 use Rattle.digits.specs.Columns.{agreed, refused, fits, written}
 use Rattle.numerals.specs.Spelling.{decimalIn}
 use Rattle.number.specs.declared.Decimal.{Decimal}
-use Rattle.position.specs.Axes.{letterOf}
+use Rattle.axes.specs.Axes.{letterOf}
 use Rattle.grid.specs.Grid.{gridIn}
-use Rattle.position.specs.declared.Axis.{Axis}
-use Rattle.position.proofs.Writing.{put-letter}
+use Rattle.axes.specs.declared.Axis.{Axis}
+use Rattle.numerals.proofs.Writing.{put-letter}
 
 module _ (a : Axis) (s : List ℕ) (d : Decimal) where
   pub grid-empty : length s ≡ 0 → gridIn a (length s) d ≡ refused NoRoom

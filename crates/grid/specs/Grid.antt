@@ -13,8 +13,8 @@ use Rattle.numerals.specs.Spelling.{decimalIn}
 use Rattle.number.specs.declared.Decimal.{Decimal}
 use Rattle.number.specs.declared.Number.{Number}
 use Rattle.number.specs.declared.Number.the-variants.{Absent, Held, Malformed, OutOfRange}
-use Rattle.position.specs.Axes.{letterOf}
-use Rattle.position.specs.declared.Axis.{Axis}
+use Rattle.axes.specs.Axes.{letterOf}
+use Rattle.axes.specs.declared.Axis.{Axis}
 
 -- a letter goes with a number
 unfoldable pub presentOf : Number → Number

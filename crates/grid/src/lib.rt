@@ -1,25 +1,9 @@
 // Coordinates in columns in form 1: a number, and the letter of its axis.
-use position::Axis;
+use axes::Axis;
 ghost use mathlib.Core.Path.{_≡_};
-ghost use mathlib.Core.Bool.{false};
 ghost use lib.ListN.{length};
 ghost use Rattle.digits.specs.Columns.{answerOf, enteredIn};
-ghost use Rattle.position.specs.Axes.{letterOf};
 ghost use Rattle.grid.specs.Grid.{presentOf, gridOf, gridIn};
-
-const EAST: u8 = 69;
-
-const NORTH: u8 = 78;
-
-// The letter behind a coordinate.
-fn letter(axis: Axis) -> u8
-    ensures { λ r. ⌜ r ≡ letterOf axis false ⌝ }
-{
-    match axis {
-        Axis::Y => NORTH,
-        Axis::X => EAST,
-    }
-}
 
 // A number that has to be there.
 fn present(found: number::Number) -> number::Number
@@ -41,7 +25,7 @@ pub fn read_grid(s: &[u8], axis: Axis) -> number::Number
         return number::Number::Absent;
     }
     let last = s.len() - 1;
-    if s[last] != letter(axis) {
+    if s[last] != axes::letter(axis, false) {
         return number::Number::Malformed;
     }
     present(number::read_number(&s[..last], true))
@@ -59,6 +43,6 @@ pub fn write_grid(columns: &mut [u8], axis: Axis, d: number::Decimal) -> digits:
     if !numerals::write_decimal(&mut columns[..last], d) {
         return digits::Written::NoRoom;
     }
-    columns[last] = letter(axis);
+    columns[last] = axes::letter(axis, false);
     digits::Written::Done
 }

@@ -8,8 +8,8 @@ use native.Mathlib.Nat.{sub-zero, zero-add, add-zero}
 use borrow.Author.Tests.{le-leb, lt-leb, le-ltb, lt-ltb}
 use mathlib.Core.List.{List, [], _∷_, _++_, append-nil}
 use mathlib.Core.Bool.{Bool, true, false}
-use lib.ListN.{length, take, drop, set, replicate, length-set, length-append, length-replicate}
-use lib.Seq.{length-take-le, take-at, drop-at, length-front}
+use lib.ListN.{length, take, drop, set, getD, replicate, length-set, length-append, length-replicate, drop-of-length-le}
+use lib.Seq.{length-take-le, take-at, drop-at, length-front, drop-cons, set-at}
 use borrow.Rule.Slice.PartMut.{putMid}
 use lib.IntN.{natAbs}
 use Rattle.digits.specs.Figures.{limit}
@@ -184,3 +184,9 @@ module _ (minus : Bool) (p n : ℕ) (old mid : List ℕ) where
       → (r ≡ fits (unitsIn (length old) minus p n)) × (new ≡ written (unitsIn (length old) minus p n) old)
   unfolding unitsIn
   units-least f e new r g h = or-second (fullIn (length old) minus p n) (λ w. leastIn w minus p n) old mid new r f e g h
+
+-- the letter in the last column, behind what is written before it
+pub put-letter : (s t : List ℕ) (k l : ℕ) → length t ≡ k → length s ≡ k + 1 → set (t ++ drop k s) k l ≡ t ++ (l ∷ [])
+put-letter s t k l p q =
+    ap (λ (r : List ℕ). set (t ++ r) k l) (drop-cons s k 0 (omega arith) ∙ ap (λ (r : List ℕ). getD s k 0 ∷ r) (drop-of-length-le s {i = suc k} (omega arith)))
+    ∙ set-at t (getD s k 0) [] l k p

@@ -17,8 +17,8 @@ use Rattle.date.specs.declared.Dated.the-variants as dated
 use Rattle.date.specs.Dates.{dateOf}
 use Rattle.position.specs.declared.Angled.{Angled}
 use Rattle.position.specs.declared.Angled.the-variants as angled
-use Rattle.position.specs.declared.Axis.{Axis}
-use Rattle.position.specs.declared.Axis.the-variants.{Y, X}
+use Rattle.axes.specs.declared.Axis.{Axis}
+use Rattle.axes.specs.declared.Axis.the-variants.{Y, X}
 use Rattle.position.specs.Angles.{angleOf}
 use Rattle.grid.specs.Grid.{gridOf}
 use Rattle.text.specs.Texts.{textEnd, leadingBlank}

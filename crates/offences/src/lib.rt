@@ -1,9 +1,9 @@
 // The number of a field's offence, found without its value: what the judging of a whole card asks of each field.
+use axes::Axis;
 use date::Dated;
 use layout::Kind;
 use number::Number;
 use position::Angled;
-use position::Axis;
 ghost use mathlib.Core.Path.{_≡_};
 ghost use mathlib.Core.Bool.{cond};
 ghost use Prim.Native.Nat.{_+_, _≤_};

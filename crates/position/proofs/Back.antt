@@ -18,14 +18,15 @@ use Rattle.signs.specs.Signs.{isMinus}
 use Rattle.numerals.specs.Spelling.{plain}
 use Rattle.numerals.proofs.Back.{sign-back}
 use Rattle.number.specs.declared.Figures.the-variants.{Units}
-use Rattle.position.specs.Axes.{boundOf, letterOf}
+use Rattle.axes.specs.Axes.{boundOf, letterOf}
 use Rattle.position.specs.Angles.{part, paddedOf, partsOf, isSpelled, angledOf, angleOf, figuresIn, angleIn}
-use Rattle.position.specs.declared.Axis.{Axis}
+use Rattle.axes.specs.declared.Axis.{Axis}
 use Rattle.position.specs.declared.Parts.{Parts}
 use Rattle.position.specs.declared.Angled.the-variants.{Held}
 use Rattle.position.proofs.Reading.{same-parts}
-use Rattle.position.proofs.Filled.{figures-digits, padded-digits, blank-at}
-use Rattle.position.proofs.Letters.{letter-is, letter-minus, bound-most}
+use Rattle.position.proofs.Filled.{figures-digits, padded-digits}
+use Rattle.digits.proofs.Blank.{blank-at}
+use Rattle.axes.proofs.Letters.{letter-is, letter-minus, bound-most}
 
 -- twelve columns by their parts
 abbrev laid : ℕ → ℕ → ℕ → List ℕ

@@ -1,4 +1,4 @@
--- Digits that fill their columns are read as their number, and columns that are all blank hold blanks alone.
+-- Digits that fill their columns are read as their number.
 use Prim.Native.Nat.{ℕ, zero, suc, _%_, _^_, _<_, _≤_}
 use native.Mathlib.Omega.{arith}
 use native.Mathlib.Nat.{mod-lt}
@@ -31,17 +31,3 @@ module _ (k n : ℕ) (some-digit : 0 < k) (few : 10 ^ k ≤ limit) (positive : 0
   padded-digits =
       ap (λ j. figuresOf false (drop j (digits k n))) (no-blanks (digits k n) (ap length (digits-alone k n)) (rw (digits-length k n) some-digit))
       ∙ figures-digits
-
--- all blank
-first-blank : (b : ℕ) (s : List ℕ) → blanks (b ∷ s) ≡ suc (length s) → (b ≡ 32) × (blanks s ≡ length s)
-unfolding blanks
-first-blank b s h = go (eqb b 32) refl h
-  where
-    go : (t : Bool) → eqb b 32 ≡ t → cond t (suc (blanks s)) 0 ≡ suc (length s) → (b ≡ 32) × (blanks s ≡ length s)
-    go true e q = (eqb-true b 32 e, omega arith)
-    go false e q = absurd (omega arith)
-
-pub blank-at : (s : List ℕ) (i : ℕ) → blanks s ≡ length s → i < length s → getD s i 0 ≡ 32
-blank-at [] i h k = absurd (omega arith)
-blank-at (b ∷ s) zero h k = first-blank b s h .0
-blank-at (b ∷ s) (suc i) h k = blank-at s i (first-blank b s h .1) (omega arith)

@@ -17,9 +17,9 @@ use Rattle.number.specs.Reading.{pointOf, figuresOf}
 use Rattle.signs.specs.Signs.{signedOf}
 use Rattle.number.specs.declared.Figures.{Figures}
 use Rattle.number.specs.declared.Figures.the-variants.{Units, Not}
-use Rattle.position.specs.Axes.{boundOf, letterOf}
+use Rattle.axes.specs.Axes.{boundOf, letterOf}
 use Rattle.position.specs.Angles.{part, paddedOf, unitsOf, partsOf, isSpelled, arcOf, angledOf, angleOf}
-use Rattle.position.specs.declared.Axis.{Axis}
+use Rattle.axes.specs.declared.Axis.{Axis}
 use Rattle.position.specs.declared.Parts.{Parts}
 use Rattle.position.specs.declared.Angled.the-variants.{Absent, Held, Malformed, OutOfRange}
 

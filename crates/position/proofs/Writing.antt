@@ -11,16 +11,10 @@ use Rattle.digits.specs.declared.Written.the-variants.{OutOfRange as Outside, N
 use Rattle.digits.specs.Columns.{agreed, refused, written}
 use Rattle.signs.specs.Signs.{isMinus}
 use Rattle.numerals.specs.Spelling.{plain, plainIn}
-use Rattle.numerals.proofs.Writing.{plain-exact}
-use Rattle.position.specs.Axes.{boundOf, letterOf}
+use Rattle.numerals.proofs.Writing.{plain-exact, put-letter}
+use Rattle.axes.specs.Axes.{boundOf, letterOf}
 use Rattle.position.specs.Angles.{figuresIn, angleIn}
-use Rattle.position.specs.declared.Axis.{Axis}
-
--- the letter in the last column, behind what is written before it
-pub put-letter : (s t : List ℕ) (k l : ℕ) → length t ≡ k → length s ≡ k + 1 → set (t ++ drop k s) k l ≡ t ++ (l ∷ [])
-put-letter s t k l p q =
-    ap (λ (r : List ℕ). set (t ++ r) k l) (drop-cons s k 0 (omega arith) ∙ ap (λ (r : List ℕ). getD s k 0 ∷ r) (drop-of-length-le s {i = suc k} (omega arith)))
-    ∙ set-at t (getD s k 0) [] l k p
+use Rattle.axes.specs.declared.Axis.{Axis}
 
 module _ (a : Axis) (w : ℕ) (z : ℤ) (n : ℕ) (e : n ≡ natAbs z) (b : ℕ) (f : b ≡ boundOf a) where
   pub angle-outside : b < n → angleIn a w z ≡ refused Outside

@@ -14,8 +14,8 @@ use Rattle.signs.specs.Signs.{isMinus}
 use Rattle.numerals.specs.Spelling.{plain}
 use Rattle.number.specs.declared.Figures.{Figures}
 use Rattle.number.specs.declared.Figures.the-variants.{Units, Not}
-use Rattle.position.specs.Axes.{boundOf, letterOf, isLetter}
-use Rattle.position.specs.declared.Axis.{Axis}
+use Rattle.axes.specs.Axes.{boundOf, letterOf, isLetter}
+use Rattle.axes.specs.declared.Axis.{Axis}
 use Rattle.position.specs.declared.Parts.{Parts}
 use Rattle.position.specs.declared.Angled.{Angled}
 use Rattle.position.specs.declared.Angled.the-variants.{Absent, Held, Malformed, OutOfRange}

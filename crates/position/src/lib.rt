@@ -1,38 +1,19 @@
 // Coordinates in columns in form 0: angles in degrees, minutes and seconds.
+use axes::Axis;
 ghost use mathlib.Core.Path.{_≡_};
 ghost use Prim.Native.Nat.{_<_, _≤_};
 ghost use lib.ListN.{length};
 ghost use Rattle.digits.specs.Columns.{answerOf, enteredIn};
 ghost use Rattle.signs.specs.Signs.{signedOf};
-ghost use Rattle.position.specs.Axes.{boundOf, letterOf};
 ghost use Rattle.position.specs.Angles.{paddedOf, isNumber, unitsOf, partsOf, isSpelled, angledOf, angleOf, figuresIn, angleIn};
 
 const POINT: u8 = 46;
-
-const EAST: u8 = 69;
-
-const NORTH: u8 = 78;
-
-const SOUTH: u8 = 83;
-
-const WEST: u8 = 87;
 
 // The columns of an angle.
 const WIDTH: usize = 12;
 
 // The place of its letter, with the number's columns before it.
 const LAST: usize = 11;
-
-// 90 and 180 degrees, in thousandths of a second of arc.
-const QUARTER: u64 = 324000000;
-
-const HALF: u64 = 648000000;
-
-// Y goes north and south, X east and west.
-pub enum Axis {
-    Y,
-    X,
-}
 
 // What stands in the columns of an angle, which is held in thousandths of a second of arc.
 pub enum Angled {
@@ -48,37 +29,6 @@ pub struct Parts {
     pub minutes: number::Figures,
     pub seconds: number::Figures,
     pub thousandths: number::Figures,
-}
-
-// How far an angle goes on its axis.
-fn bound(axis: Axis) -> u64
-    ensures found { λ r. ⌜ r ≡ boundOf axis ⌝ }
-    ensures within { λ r. ⌜ r ≤ 648000000 ⌝ }
-{
-    match axis {
-        Axis::Y => QUARTER,
-        Axis::X => HALF,
-    }
-}
-
-// The letter of an axis for what is not below zero, or is.
-fn letter(axis: Axis, minus: bool) -> u8
-    ensures { λ r. ⌜ r ≡ letterOf axis minus ⌝ }
-{
-    match axis {
-        Axis::Y => {
-            if minus {
-                return SOUTH;
-            }
-            NORTH
-        }
-        Axis::X => {
-            if minus {
-                return WEST;
-            }
-            EAST
-        }
-    }
 }
 
 // Whether there are digits.
@@ -136,7 +86,7 @@ fn is_spelled(axis: Axis, p: Parts, point: u8, last: u8) -> bool
     let thousandths = p.thousandths;
     let whole = is_number(degrees) & is_number(minutes);
     let broken = is_number(seconds) & is_number(thousandths);
-    let lettered = (last == letter(axis, false)) | (last == letter(axis, true));
+    let lettered = (last == axes::letter(axis, false)) | (last == axes::letter(axis, true));
     (whole & broken) & ((point == POINT) & lettered)
 }
 
@@ -158,7 +108,7 @@ fn judged(axis: Axis, minus: bool, p: Parts) -> Angled
         return Angled::OutOfRange;
     }
     let n = ((units(d) * 60 + minutes) * 60 + seconds) * 1000 + units(t);
-    if bound(axis) < n {
+    if axes::bound(axis) < n {
         return Angled::OutOfRange;
     }
     Angled::Held(signs::signed(minus, n))
@@ -179,7 +129,7 @@ pub fn read_angle(s: &[u8], axis: Axis) -> Angled
     if !is_spelled(axis, p, s[7], last) {
         return Angled::Malformed;
     }
-    judged(axis, last == letter(axis, true), p)
+    judged(axis, last == axes::letter(axis, true), p)
 }
 
 // The digits of n thousandths of a second, as one number.
@@ -196,13 +146,13 @@ pub fn write_angle(columns: &mut [u8], axis: Axis, angle: i64) -> digits::Writte
     ensures columns { λ _. ⌜ now (columns .exit) ≡ enteredIn (angleIn axis (length (now (columns .entry))) angle) (now (columns .entry)) ⌝ }
 {
     let n = signs::magnitude(angle);
-    if bound(axis) < n {
+    if axes::bound(axis) < n {
         return digits::Written::OutOfRange;
     }
     if columns.len() != WIDTH {
         return digits::Written::NoRoom;
     }
     numerals::write_plain(&mut columns[..LAST], figures(n), 3);
-    columns[LAST] = letter(axis, signs::below_zero(angle));
+    columns[LAST] = axes::letter(axis, signs::below_zero(angle));
     digits::Written::Done
 }

@@ -1,4 +1,5 @@
 // A refusal told to people: the card as it stands, a caret under the column, and one sentence for the number.
+use card::Form;
 use seeking::Refusal;
 
 // The cards H0000 to H0007 that open a header, and the layouts of H00@8 and H00@9.
@@ -132,6 +133,31 @@ fn push_mislabelled(out: &mut [u8], n: usize, card: &[u8]) -> usize {
     sheet::push_all(out, label, b"\", from column 6 on.")
 }
 
+// Whether a card's coordinates are a number and a letter.
+fn is_grid(header: &[u8], card: &[u8], layout: usize) -> bool {
+    let notes = forms::notes_of(header);
+    let form = forms::form_by(&notes, layout, card);
+    match form {
+        Form::Grid => true,
+        Form::Angles => false,
+        Form::Unknown => false,
+    }
+}
+
+// 9, 10 and 11: what the field asks for.
+fn push_field(
+    out: &mut [u8],
+    n: usize,
+    header: &[u8],
+    card: &[u8],
+    number: usize,
+    column: usize,
+) -> usize {
+    let layout = forms::layout_of(card);
+    let grid = is_grid(header, card, layout);
+    demands::push_field(out, n, layout, grid, number, column)
+}
+
 // Puts the sentence of a refusal.
 fn push_reason(
     out: &mut [u8],
@@ -151,7 +177,7 @@ fn push_reason(
         6 => push_misplaced(out, n, card, place),
         7 => push_gap(out, n, card, column),
         8 => push_mislabelled(out, n, card),
-        _ => demands::push_field(out, n, header, card, number, column),
+        _ => push_field(out, n, header, card, number, column),
     }
 }
 

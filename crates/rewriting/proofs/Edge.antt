@@ -16,7 +16,7 @@ use Rattle.signs.specs.Signs.{signedOf}
 use Rattle.numerals.specs.Spelling.{sign, plain, spelled, unitsIn as unitsAt, decimalIn}
 use Rattle.date.specs.Calendar.{isLeap, isShort, daysIn, isDate}
 use Rattle.date.specs.Dates.{datedOf, dateOf, dateIn}
-use Rattle.position.specs.Axes.{boundOf, letterOf}
+use Rattle.axes.specs.Axes.{boundOf, letterOf}
 use Rattle.position.specs.Angles.{paddedOf, partsOf, isSpelled, angledOf, angleOf, angleIn}
 use Rattle.spelling.specs.declared.Value.{Value}
 use Rattle.spelling.specs.declared.Value.the-variants as value

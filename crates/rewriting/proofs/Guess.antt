@@ -8,7 +8,7 @@ use lib.IntN.{pos}
 use Rattle.digits.specs.Figures.{blanks, unpadded, leading, behind, valueFrom}
 use Rattle.number.specs.Reading.{pointOf, figuresOf, heldOf, signOf, numberOf}
 use Rattle.signs.specs.Signs.{signedOf}
-use Rattle.position.specs.Axes.{boundOf, letterOf}
+use Rattle.axes.specs.Axes.{boundOf, letterOf}
 use Rattle.position.specs.Angles.{paddedOf, partsOf, isSpelled, angledOf, angleOf}
 use Rattle.grid.specs.Grid.{presentOf, gridOf}
 use Rattle.layout.specs.declared.Kind.the-variants as kind

@@ -14,10 +14,10 @@ use Rattle.signs.specs.Signs.{isMinus}
 use Rattle.numerals.specs.Spelling.{plain, decimalIn}
 use Rattle.date.specs.Calendar.{isDate}
 use Rattle.date.specs.Dates.{numberOf, dateIn}
-use Rattle.position.specs.declared.Axis.{Axis}
-use Rattle.position.specs.declared.Axis.the-variants.{Y, X}
+use Rattle.axes.specs.declared.Axis.{Axis}
+use Rattle.axes.specs.declared.Axis.the-variants.{Y, X}
 use Rattle.position.specs.Angles.{figuresIn, angleIn}
-use Rattle.position.specs.Axes.{boundOf, letterOf}
+use Rattle.axes.specs.Axes.{boundOf, letterOf}
 use Rattle.grid.specs.Grid.{lettered, gridIn}
 use Rattle.text.specs.Texts.{printable, wellFormed, textIn}
 use Rattle.spelling.specs.declared.Columns.{Columns}

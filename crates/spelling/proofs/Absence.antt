@@ -22,10 +22,10 @@ use Rattle.date.specs.Calendar.{isDate}
 use Rattle.date.specs.Dates.{dateOf, datedOf, partsOf}
 use Rattle.position.specs.declared.Angled.{Angled}
 use Rattle.position.specs.declared.Angled.the-variants.{Absent as NoAngle, Held as Arc, Malformed as OddAngle, OutOfRange as LargeAngle}
-use Rattle.position.specs.declared.Axis.{Axis}
-use Rattle.position.specs.declared.Axis.the-variants.{Y, X}
+use Rattle.axes.specs.declared.Axis.{Axis}
+use Rattle.axes.specs.declared.Axis.the-variants.{Y, X}
 use Rattle.position.specs.Angles.{unitsOf, partsOf as partsIn, arcOf, isSpelled, angledOf, angleOf}
-use Rattle.position.specs.Axes.{boundOf, letterOf}
+use Rattle.axes.specs.Axes.{boundOf, letterOf}
 use Rattle.position.specs.declared.Parts.{Parts}
 use Rattle.grid.specs.Grid.{presentOf, gridOf}
 use Rattle.text.specs.Texts.{textEnd, leadingBlank}

@@ -11,7 +11,7 @@ use Rattle.date.specs.declared.Dated.the-variants.{Absent as NoDate, Held as Da
 use Rattle.date.specs.Dates.{dateOf}
 use Rattle.position.specs.declared.Angled.{Angled}
 use Rattle.position.specs.declared.Angled.the-variants.{Absent as NoAngle, Held as Arc, Malformed as OddAngle, OutOfRange as LargeAngle}
-use Rattle.position.specs.declared.Axis.the-variants.{Y, X}
+use Rattle.axes.specs.declared.Axis.the-variants.{Y, X}
 use Rattle.position.specs.Angles.{angleOf}
 use Rattle.grid.specs.Grid.{gridOf}
 use Rattle.text.specs.Texts.{textEnd, textOf, leadingBlank}

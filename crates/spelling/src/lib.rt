@@ -1,10 +1,10 @@
 // One field's columns: what stands there, by each of the paper's spellings.
+use axes::Axis;
 use date::Date;
 use date::Dated;
 use number::Decimal;
 use number::Number;
 use position::Angled;
-use position::Axis;
 ghost use mathlib.Core.Path.{_≡_};
 ghost use Rattle.spelling.specs.Reading.{textReading, wholeReading, decimalReading, dateReading, angleReading, readingOf, isText, textRead};
 

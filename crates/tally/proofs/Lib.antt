@@ -1,4 +1,3 @@
-pub mod Adding
 pub mod Once
 pub mod Only
 pub mod Walking

@@ -17,18 +17,11 @@ pub const BUCKETS: usize = 3989;
 // A tag that says nothing.
 pub const NO_TAG: u8 = 10;
 
-fn bucket_of(key: u64) -> usize
+// The bucket of a key.
+pub fn bucket_of(key: u64) -> usize
     ensures { λ r. ⌜ (r ≡ bucket key) × (r < buckets) ⌝ }
 {
     (key % BUCKETS as u64) as usize
-}
-
-// How an entry is named in a chain, where 0 is the end.
-fn name_of(i: usize) -> u16
-    requires { ⌜ i < room ⌝ }
-    ensures { λ r. ⌜ r ≡ i + 1 ⌝ }
-{
-    (i + 1) as u16
 }
 
 fn wide(link: u16) -> usize
@@ -93,22 +86,6 @@ pub fn count_by(
     at(times, link - 1)
 }
 
-// How many of n entries have a key.
-fn count_of(
-    keys: &[u64; ROOM],
-    heads: &[u16; BUCKETS],
-    next: &[u16; ROOM],
-    times: &[u16; ROOM],
-    n: usize,
-    key: u64,
-) -> usize
-    requires { ⌜ Linked (now keys) n (now heads) (now next) (now times) ⌝ }
-    ensures { λ r. ⌜ r ≡ count (holds (now (keys .entry)) key) n ⌝ }
-{
-    let link = find(keys, heads, next, n, key);
-    count_by(keys, heads, next, times, n, key, link)
-}
-
 // The tag of the only one of n entries that has the key, NO_TAG where there is not exactly one.
 pub fn tag_by(
     keys: &[u64; ROOM],
@@ -145,33 +122,4 @@ pub fn once_each(times: &[u16; ROOM], n: usize) -> bool
         i += 1;
     }
     once
-}
-
-// One entry more, at n.
-pub fn add(
-    keys: &mut [u64; ROOM],
-    tags: &mut [u8; ROOM],
-    heads: &mut [u16; BUCKETS],
-    next: &mut [u16; ROOM],
-    times: &mut [u16; ROOM],
-    n: usize,
-    key: u64,
-    tag: u8,
-)
-    requires { ⌜ n < room ⌝ }
-    requires { ⌜ Linked (now keys) n (now heads) (now next) (now times) ⌝ }
-    ensures key { λ _. ⌜ now (keys .exit) ≡ set (now (keys .entry)) n key ⌝ }
-    ensures tag { λ _. ⌜ now (tags .exit) ≡ set (now (tags .entry)) n tag ⌝ }
-    ensures head { λ _. ⌜ now (heads .exit) ≡ set (now (heads .entry)) (bucket key) (n + 1) ⌝ }
-    ensures next { λ _. ⌜ now (next .exit) ≡ set (now (next .entry)) n (getD (now (heads .entry)) (bucket key) 0) ⌝ }
-    ensures times { λ _. ⌜ now (times .exit) ≡ set (now (times .entry)) n (count (holds (now (keys .entry)) key) n + 1) ⌝ }
-    ensures linked { λ _. ⌜ Linked (now (keys .exit)) (n + 1) (now (heads .exit)) (now (next .exit)) (now (times .exit)) ⌝ }
-{
-    let b = bucket_of(key);
-    let before = count_of(keys, heads, next, times, n, key);
-    keys[n] = key;
-    tags[n] = tag;
-    times[n] = name_of(before);
-    next[n] = heads[b];
-    heads[b] = name_of(n);
 }

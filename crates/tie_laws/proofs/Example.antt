@@ -9,7 +9,7 @@ use Rattle.number.specs.Reading.{pointOf, figuresOf, heldOf as numberHeld, sign
 use Rattle.text.specs.Texts.{textEnd, leadingBlank}
 use Rattle.date.specs.Dates.{dateOf}
 use Rattle.grid.specs.Grid.{presentOf, gridOf}
-use Rattle.position.specs.Axes.{letterOf}
+use Rattle.axes.specs.Axes.{letterOf}
 use Rattle.spelling.specs.Reading.{textReading, wholeReading, decimalReading, dateReading, readingOf}
 use Rattle.layout.specs.Table.{layouts, passedCodes}
 use Rattle.layout.specs.Layouts.{layoutAt, fieldsOf, labelOf}

@@ -20,8 +20,8 @@ use Rattle.date.specs.Dates.{dateOf, dateIn}
 use Rattle.date.proofs.Agreed.{date-agreed}
 use Rattle.position.specs.declared.Angled.{Angled}
 use Rattle.position.specs.declared.Angled.the-variants.{Absent as NoAngle, Held as Arc, Malformed as OddAngle, OutOfRange as LargeAngle}
-use Rattle.position.specs.declared.Axis.{Axis}
-use Rattle.position.specs.declared.Axis.the-variants.{Y, X}
+use Rattle.axes.specs.declared.Axis.{Axis}
+use Rattle.axes.specs.declared.Axis.the-variants.{Y, X}
 use Rattle.position.specs.Angles.{angleOf}
 use Rattle.grid.specs.Grid.{gridOf}
 use Rattle.position.proofs.Agreed.{angle-agreed}

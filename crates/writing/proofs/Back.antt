@@ -13,8 +13,8 @@ use Rattle.digits.specs.Columns.{Entry, agreed, refused, roomOf}
 use Rattle.numerals.specs.Spelling.{decimalIn}
 use Rattle.numerals.proofs.Back.{number-back}
 use Rattle.date.proofs.Back.{date-back}
-use Rattle.position.specs.declared.Axis.{Axis}
-use Rattle.position.specs.declared.Axis.the-variants.{Y, X}
+use Rattle.axes.specs.declared.Axis.{Axis}
+use Rattle.axes.specs.declared.Axis.the-variants.{Y, X}
 use Rattle.position.specs.Angles.{angleOf}
 use Rattle.grid.specs.Grid.{gridOf}
 use Rattle.position.proofs.Back.{angle-back}

@@ -22,9 +22,9 @@ use Rattle.numerals.proofs.Back.{adjusted-back}
 use Rattle.date.specs.declared.Date.{Date as DateOf}
 use Rattle.date.specs.Calendar.{isDate}
 use Rattle.date.specs.Dates.{numberOf, dateIn}
-use Rattle.position.specs.declared.Axis.{Axis}
-use Rattle.position.specs.declared.Axis.the-variants.{Y, X}
-use Rattle.position.specs.Axes.{boundOf, letterOf}
+use Rattle.axes.specs.declared.Axis.{Axis}
+use Rattle.axes.specs.declared.Axis.the-variants.{Y, X}
+use Rattle.axes.specs.Axes.{boundOf, letterOf}
 use Rattle.position.specs.Angles.{figuresIn, angleIn}
 use Rattle.grid.specs.Grid.{lettered, gridIn}
 use Rattle.text.specs.Texts.{printable, wellFormed, textIn}

@@ -9,7 +9,7 @@ use types.Run.{OneOf, miss}
 use Rattle.digits.specs.declared.Written.{Written}
 use Rattle.digits.specs.declared.Written.the-variants.{Done, OtherKind, NoRoom}
 use Rattle.digits.specs.Columns.{fits, written, Entry, refused, answerOf, enteredIn, roomOf}
-use Rattle.position.specs.declared.Axis.{Axis}
+use Rattle.axes.specs.declared.Axis.{Axis}
 use Rattle.spelling.specs.declared.Value.{Value}
 use Rattle.spelling.proofs.Value.{the-type}
 use Rattle.spelling.proofs.Spelling.{the-type as spelling-type}

@@ -8,8 +8,8 @@ use Rattle.digits.specs.declared.Written.the-variants.{Malformed as Odd, OutOfR
 use Rattle.digits.specs.Columns.{Entry, agreed, refused, roomOf}
 use Rattle.numerals.specs.Spelling.{decimalIn}
 use Rattle.date.specs.Dates.{dateIn}
-use Rattle.position.specs.declared.Axis.{Axis}
-use Rattle.position.specs.declared.Axis.the-variants.{Y, X}
+use Rattle.axes.specs.declared.Axis.{Axis}
+use Rattle.axes.specs.declared.Axis.the-variants.{Y, X}
 use Rattle.position.specs.Angles.{angleIn}
 use Rattle.grid.specs.Grid.{gridIn}
 use Rattle.text.specs.Texts.{textOf, textIn}

@@ -1,7 +1,7 @@
 // One field's columns: what an entry leaves there, in each of the paper's spellings.
+use axes::Axis;
 use digits::Written;
 use number::Decimal;
-use position::Axis;
 use spelling::Spelling;
 use spelling::Value;
 ghost use mathlib.Core.Path.{_≡_};

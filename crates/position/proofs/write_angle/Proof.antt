@@ -6,7 +6,7 @@ use mir.ValLaws.{toZ-ofZ}
 use lib.IntN.{natAbs}
 use lib.Seq.{length-take-le}
 use Rattle.signs.specs.Signs.{isMinus}
-use Rattle.position.specs.Axes.{letterOf}
+use Rattle.axes.specs.Axes.{letterOf}
 use Rattle.digits.proofs.Answers.{made, turned-away}
 use Rattle.position.proofs.Writing.{angle-outside, angle-no-room, angle-room, angle-written}
 use native.Mathlib.Omega.{arith}

@@ -1,9 +1,9 @@
--- `position::letter` meets its contract.
+-- `axes::letter` meets its contract.
 use mathlib.Core.Path.{sym, ap₂}
-use Rattle.position.specs.Axes.{letterOf}
+use Rattle.axes.specs.Axes.{letterOf}
 use borrow.Author.Needs.{needs}
-use Rattle.position.proofs.letter.Statement.{statement}
-use Rattle.position.proofs.letter.Tie as tie
+use Rattle.axes.proofs.letter.Statement.{statement}
+use Rattle.axes.proofs.letter.Tie as tie
 
 enum-told : tie.Need-enum-told
 enum-told c = search needs

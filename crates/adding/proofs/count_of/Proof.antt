@@ -2,8 +2,8 @@
 -- Assumes nothing.
 use denote.Ref.{now}
 use borrow.Author.Needs.{needs}
-use Rattle.tally.proofs.count_of.Statement.{statement}
-use Rattle.tally.proofs.count_of.Tie as tie
+use Rattle.adding.proofs.count_of.Statement.{statement}
+use Rattle.adding.proofs.count_of.Tie as tie
 
 find-requires : tie.Need-find-requires
 find-requires c κs = (now (c .args .times), c .pre)

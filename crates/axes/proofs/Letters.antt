@@ -5,9 +5,9 @@ use mathlib.Core.Path.{_≡_, refl}
 use mathlib.Core.Bool.{Bool, true, false}
 use lib.Dec.{eqb}
 use lib.IntN.{natAbs}
-use Rattle.position.specs.Axes.{boundOf, letterOf, isLetter}
-use Rattle.position.specs.declared.Axis.{Axis}
-use Rattle.position.specs.declared.Axis.the-variants.{Y, X}
+use Rattle.axes.specs.Axes.{boundOf, letterOf, isLetter}
+use Rattle.axes.specs.declared.Axis.{Axis}
+use Rattle.axes.specs.declared.Axis.the-variants.{Y, X}
 
 pub letter-is : (a : Axis) (minus : Bool) → isLetter a (letterOf a minus) ≡ true
 unfolding letterOf

@@ -1,10 +1,10 @@
--- `position::bound` meets its contract.
+-- `axes::bound` meets its contract.
 use mathlib.Core.Path.{sym, ap}
-use Rattle.position.specs.Axes.{boundOf}
+use Rattle.axes.specs.Axes.{boundOf}
 use native.Mathlib.Omega.{arith}
 use borrow.Author.Needs.{needs}
-use Rattle.position.proofs.bound.Statement.{statement}
-use Rattle.position.proofs.bound.Tie as tie
+use Rattle.axes.proofs.bound.Statement.{statement}
+use Rattle.axes.proofs.bound.Tie as tie
 
 enum-told : tie.Need-enum-told
 enum-told c = search needs

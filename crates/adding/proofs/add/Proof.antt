@@ -5,10 +5,10 @@ use denote.Ref.{now}
 use native.Mathlib.Omega.{arith}
 use borrow.Author.Needs.{needs}
 use Rattle.lists.proofs.Counting.{count-le}
 use Rattle.tally.specs.Chains.{holds}
-use Rattle.tally.proofs.Adding.{linked-more}
-use Rattle.tally.proofs.add.Statement.{statement}
-use Rattle.tally.proofs.add.Tie as tie
+use Rattle.adding.proofs.Adding.{linked-more}
+use Rattle.adding.proofs.add.Statement.{statement}
+use Rattle.adding.proofs.add.Tie as tie
 
 bucket-of-requires : tie.Need-bucket-of-requires
 bucket-of-requires c κs = search needs
