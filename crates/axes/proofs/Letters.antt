@@ -1,10 +1,9 @@
--- The letters of an axis are told apart, and none is a blank; how far an axis goes at most; a sign changes no size.
-use Prim.Native.Nat.{ℕ, zero, suc, _≤_}
+-- The letters of an axis are told apart, and none is a blank; how far an axis goes at most.
+use Prim.Native.Nat.{_≤_}
 use native.Mathlib.Omega.{arith}
 use mathlib.Core.Path.{_≡_, refl}
 use mathlib.Core.Bool.{Bool, true, false}
 use lib.Dec.{eqb}
-use lib.IntN.{natAbs}
 use Rattle.axes.specs.Axes.{boundOf, letterOf, isLetter}
 use Rattle.axes.specs.declared.Axis.{Axis}
 use Rattle.axes.specs.declared.Axis.the-variants.{Y, X}

@@ -101,8 +101,8 @@ fn push_missing(out: &mut [u8], n: usize, f: Field, layout: usize) -> usize {
     sheet::push_all(out, span, b" may not be blank.")
 }
 
-// Puts what is wrong with the field of a layout that begins in a column, by the number of the refusal; in grid's form its
-// coordinates are a number and a letter.
+// Puts what is wrong with the field of a layout that begins in a column, by the number of the refusal; where grid is
+// true its coordinates are a number and a letter.
 pub fn push_field(
     out: &mut [u8],
     n: usize,

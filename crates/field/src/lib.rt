@@ -5,8 +5,6 @@ use seeking::Refusal;
 use seeking::Way;
 use spelling::Value;
 ghost use mathlib.Core.Path.{_≡_};
-ghost use Prim.Native.Nat.{_≤_, _-_};
-ghost use lib.ListN.{length, take, drop};
 ghost use Rattle.field.specs.Reading.{answeredOf, fieldReading, holdsText, fieldText};
 
 // The answer to reading a field.

@@ -1,6 +1,6 @@
 // The layout table as the code holds it: a block a code, a line a field; a new code is one more block behind the last. The check
-// compares all of it with the specification, and nothing else counts its codes or fields. It stands in four pieces, since what
-// the check takes grows with the square of a piece.
+// compares all of it with the specification, and nothing else counts its codes or fields. It stands in four pieces, since the
+// time to check one grows faster than its lines.
 // A `match` whose arms are constants becomes constant data; an array would be written out anew wherever it is used.
 ghost use Prim.Native.Nat.{_≤_};
 ghost use mathlib.Core.Path.{_≡_};

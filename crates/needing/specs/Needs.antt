@@ -1,7 +1,7 @@
 -- Whether a field of a card is needed: its columns, the second set, and the need as the card stands.
 use Prim.Native.Nat.{ℕ, _-_}
 use mathlib.Core.List.{List, [], _∷_}
-use mathlib.Core.Bool.{Bool, true, false, _&&_, _||_, not}
+use mathlib.Core.Bool.{Bool, false, _&&_, _||_, not}
 use lib.ListN.{take, drop}
 use lib.Dec.{eqb}
 use Rattle.text.specs.Texts.{textEnd}

@@ -1,13 +1,11 @@
 -- Digits that fill their columns are read as their number.
-use Prim.Native.Nat.{ℕ, zero, suc, _%_, _^_, _<_, _≤_}
+use Prim.Native.Nat.{ℕ, _%_, _^_, _<_, _≤_}
 use native.Mathlib.Omega.{arith}
 use native.Mathlib.Nat.{mod-lt}
 use mathlib.Core.Path.{_≡_, refl, sym, ap, ap₂, _∙_}
-use mathlib.Core.List.{List, [], _∷_, append-nil}
-use mathlib.Core.Bool.{Bool, true, false, cond}
-use lib.ListN.{length, getD, drop}
-use lib.Dec.{eqb, leb}
-use borrow.Author.Tests.{eqb-true, ne-eqb, leb-true}
+use mathlib.Core.Bool.{false}
+use lib.ListN.{length, drop}
+use borrow.Author.Tests.{ne-eqb}
 use Rattle.digits.specs.Figures.{isDigit, blanks, unpadded, leading, valueFrom, limit, capped, runOf}
 use Rattle.digits.specs.Digits.{digits}
 use Rattle.digits.proofs.Numbers.{digits-alone, digits-value, no-blanks}

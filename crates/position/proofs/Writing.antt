@@ -1,10 +1,10 @@
 -- What each way through the writing of an angle leaves in the columns.
-use Prim.Native.Nat.{ℕ, suc, _+_, _≤_, _<_}
+use Prim.Native.Nat.{ℕ, _≤_, _<_}
 use native.Mathlib.Omega.{arith}
 use mathlib.Core.Path.{_≡_, ap, _∙_}
 use mathlib.Core.List.{List, [], _∷_, _++_}
-use lib.ListN.{length, take, drop, set, getD, drop-of-length-le}
-use lib.Seq.{drop-cons, set-at, length-take-le}
+use lib.ListN.{length, take, drop, set}
+use lib.Seq.{length-take-le}
 use lib.IntN.{ℤ, natAbs}
 use borrow.Author.Tests.{eq-eqb, ne-eqb, le-leb, lt-leb}
 use Rattle.digits.specs.declared.Written.the-variants.{OutOfRange as Outside, NoRoom}

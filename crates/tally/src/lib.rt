@@ -3,8 +3,8 @@
 // starts with arrays of zeros and n = 0, adds at n and counts n up, and keeps `Linked`; from then on it asks about the first n.
 ghost use mathlib.Core.Path.{_≡_};
 ghost use mathlib.Core.List.{List};
-ghost use Prim.Native.Nat.{ℕ, _+_, _≤_, _<_};
-ghost use lib.ListN.{getD, set};
+ghost use Prim.Native.Nat.{ℕ, _≤_, _<_};
+ghost use lib.ListN.{getD};
 ghost use Rattle.lists.specs.Count.{count};
 ghost use Rattle.tally.specs.Chains.{room, buckets, bucket, holds, last, onlyTag, onceTo, Linked};
 
