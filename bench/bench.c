@@ -1,7 +1,7 @@
 // Times the proved library, the second implementation and one bare pass over the bytes, in turns, and prints the least time
 // of each with the ratios; then how time grows with the cards, and how deep the library goes into the stack.
 // It first holds the answers of the two to each other on all that is timed, and ends where they differ.
-// Usage: bench [SECONDS]
+// Usage: bench [SECONDS [FILE]]; the least times in the file, left there by the same program at other addresses, count too.
 #define _GNU_SOURCE
 #include "../include/p294.h"
 #include "headers.h"
@@ -306,13 +306,47 @@ static void time_once(struct row *r)
     }
 }
 
-static unsigned time_all(double seconds)
+static unsigned rounds, addresses = 1;
+
+static void time_all(double seconds)
 {
-    unsigned rounds = 0;
     for (double from = now(CLOCK_MONOTONIC); rounds < 5 || now(CLOCK_MONOTONIC) - from < seconds * 1e9; rounds++)
         for (unsigned k = 0; k < count; k++)
             time_once(&rows[k]);
-    return rounds;
+}
+
+// Takes in what an earlier program has measured, if there is such a file.
+static void load_least(const char *path)
+{
+    FILE *file = fopen(path, "r");
+    unsigned more, before;
+    if (file == NULL)
+        return;
+    if (fscanf(file, "%u %u", &more, &before) != 2)
+        fail(rows, "the file of least times is damaged");
+    rounds += more;
+    addresses += before;
+    for (struct row *r = rows; r < rows + count; r++)
+        for (int i = 0; i < RUNNERS; i++) {
+            double least;
+            if (fscanf(file, "%lf", &least) != 1)
+                fail(r, "the file of least times is damaged");
+            if (least < r->least[i])
+                r->least[i] = least;
+        }
+    fclose(file);
+}
+
+static void store_least(const char *path)
+{
+    FILE *file = fopen(path, "w");
+    if (file == NULL)
+        fail(rows, "the file of least times cannot be written");
+    fprintf(file, "%u %u\n", rounds, addresses);
+    for (const struct row *r = rows; r < rows + count; r++)
+        fprintf(file, "%.17g %.17g %.17g\n", r->least[LIBRARY], r->least[SECOND], r->least[PASS]);
+    if (fclose(file) != 0)
+        fail(rows, "the file of least times cannot be written");
 }
 
 static void print_time(double ns)
@@ -325,9 +359,10 @@ static int is_small(const struct row *r)
     return r->header && r->header->size < MOST_CARDS * CARD_SIZE;
 }
 
-static void print_rows(unsigned rounds)
+static void print_rows(void)
 {
-    printf("Least of %u rounds, in microseconds of the processor's time a call. Headers are of 800 cards.\n\n", rounds);
+    printf("Least of %u rounds at %u addresses, in microseconds of the processor's time a call. Headers are of 800 cards.\n\n",
+           rounds, addresses);
     printf("| what | library | second | pass | library / second | library / pass |\n|---|---:|---:|---:|---:|---:|\n");
     for (const struct row *r = rows; r < rows + count; r++) {
         if (is_small(r))
@@ -421,7 +456,12 @@ int main(int argc, char **argv)
         hold(&rows[k]);
     printf("Both give the same answers in all %u cases.\n", count);
     fflush(stdout);
-    print_rows(time_all(seconds));
+    time_all(seconds);
+    if (argc > 2) {
+        load_least(argv[2]);
+        store_least(argv[2]);
+    }
+    print_rows();
     print_growth();
     print_stack();
     return EXIT_SUCCESS;

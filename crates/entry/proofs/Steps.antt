@@ -35,8 +35,9 @@ use Rattle.layout.specs.declared.Found.the-variants as found
 use Rattle.layout.specs.Layouts.{fieldsOf, fieldOf, noField}
 use Rattle.ranges.specs.Ranges.{inRange, allows}
 use Rattle.layout.specs.Layouts.{isAny}
-use Rattle.layout.proofs.Numbers.{found-lies, found-ranged}
+use Rattle.layout.proofs.Numbers.{found-ranged}
 use Rattle.seeking.proofs.Steps.{found-there}
+use Rattle.field.proofs.Steps.{found-fits}
 use Rattle.seeking.specs.declared.Refusal.{Refusal}
 use Rattle.seeking.specs.declared.Sought.{Sought}
 use Rattle.seeking.specs.declared.Sought.the-variants as sought
@@ -127,7 +128,7 @@ came-left s written.NoRoom = refl
 pub columns-wide : (s : List ℕ) (at last : ℕ) → at ≤ last → last ≤ length s → length (take (last - at) (drop at s)) ≡ last - at
 columns-wide s at last h g = length-take-le (last - at) (drop at s) (rw (length-drop at s) (omega arith))
 
-pub put-entry : (f : Field) (s : List ℕ) (e : Entry) (r : Written) (a : Entered) (t : List ℕ) → a ≡ answerOf (cameOf [] r) → r ≡ writtenOf e
+put-entry : (f : Field) (s : List ℕ) (e : Entry) (r : Written) (a : Entered) (t : List ℕ) → a ≡ answerOf (cameOf [] r) → r ≡ writtenOf e
     → t ≡ enteredIn e (take (width f) (drop (f .first - 1) s))
     → (a ≡ answerOf (byEntry f s e)) × (putMid (f .first - 1) (width f) s t ≡ leftBy (byEntry f s e) s)
 unfolding byEntry placedIn cameOf
@@ -136,6 +137,19 @@ put-entry f s (refused why) r a t p q h = (
   p ∙ ap (λ x. answerOf (cameOf [] x)) q ∙ came-answer s why,
   ap (putMid (f .first - 1) (width f) s) h ∙ put-same (f .first - 1) (width f) s ∙ came-left s why,
 )
+
+-- the same with the field's parts one by one, of whatever is entered by a spelling and a width
+pub put-parts : (e : Spelling → ℕ → Entry) (f : Field) (grid : Bool) (s : List ℕ) → f .first ≤ f .last → f .last ≤ length s
+    → (first last : ℕ) → first ≡ f .first → last ≡ f .last → (d : Kind) → d ≡ f .kind → (x : Spelling) → x ≡ spellingOf d grid
+    → (r : Written) (a : Entered) (t : List ℕ) → a ≡ answerOf (cameOf [] r)
+    → r ≡ writtenOf (e x (length (take (last - (first - 1)) (drop (first - 1) s))))
+    → t ≡ enteredIn (e x (length (take (last - (first - 1)) (drop (first - 1) s)))) (take (last - (first - 1)) (drop (first - 1) s))
+    → (a ≡ answerOf (byEntry f s (e (spellingOf (f .kind) grid) (width f))))
+    × (putMid (first - 1) (last - (first - 1)) s t ≡ leftBy (byEntry f s (e (spellingOf (f .kind) grid) (width f))) s)
+put-parts e f grid s forward on-card first last i j d k x l r a t p q h =
+    let y : x ≡ spellingOf (f .kind) grid = l ∙ ap (λ z. spellingOf z grid) k in
+    let w : length (take (width f) (drop (f .first - 1) s)) ≡ width f = columns-wide s (f .first - 1) (f .last) (omega arith) on-card in
+    rw (i, j) (put-entry f s (e (spellingOf (f .kind) grid) (width f)) r a t p (q ∙ rw (i, j, y, w)) (h ∙ rw (i, j, y, w)))
 
 -- a number outside a range is one that the field takes
 any-range : (r : Range) (z : ℤ) → isAny r ≡ true → inRange r z ≡ true
@@ -252,9 +266,8 @@ module _ (s : List ℕ) (n form k : ℕ) (f : Field) (q : soughtOf s n form ≡ 
 
   pub field-fits : (length s ≡ 80) × (1 ≤ f .first) × (f .first ≤ f .last) × (f .last ≤ 80) × T (ranged (f .kind) (f .range))
   field-fits =
-      let h = found-there s n form k f q in
-      let l = found-lies k n f (h .field) in
-      (h .whole, omega (arith, l .after), l .forward, l .on-card, found-ranged k n f (h .field))
+      let h = found-fits s n form k f q in
+      (h .0, h .1, h .2, h .3, found-ranged k n f (found-there s n form k f q .field))
 
 module _ (s : List ℕ) (n form : ℕ) (r : Refusal) (q : soughtOf s n form ≡ sought.Refused r) where
   pub value-stays : (v : Value) → puttingOf s n form v ≡ stays r

@@ -1,7 +1,5 @@
 // Entering a value or a text into a field of a card: into its columns alone, or not at all.
 use digits::Written;
-use layout::Field;
-use layout::Found;
 use seeking::Refusal;
 use seeking::Way;
 use spelling::Value;
@@ -12,6 +10,7 @@ ghost use mathlib.Core.List.{[]};
 ghost use lib.Dec.{T};
 ghost use Rattle.layout.proofs.Columns.{ranged};
 ghost use Rattle.layout.specs.Layouts.{fieldsOf, fieldOf};
+ghost use Rattle.layout.specs.Packed.{unpack};
 ghost use Rattle.seeking.specs.Card.{refusal};
 ghost use Rattle.judging.specs.Fields.{spellingOf};
 ghost use Rattle.needing.specs.Needs.{secondBy};
@@ -57,14 +56,11 @@ fn is_absent(v: Value) -> bool
 }
 
 // Whether a value lies in its field's range.
-fn is_within(f: Field, v: Value) -> bool
-    ensures { λ r. ⌜ r ≡ within f v ⌝ }
+fn is_within(row: u64, v: Value) -> bool
+    ensures { λ r. ⌜ r ≡ within (unpack row) v ⌝ }
 {
     match v {
-        Value::Whole(z) => {
-            let range = f.range;
-            ranges::in_range(range, z)
-        }
+        Value::Whole(z) => ranges::in_range(fields::range_of(row), z),
         _ => true,
     }
 }
@@ -86,59 +82,57 @@ fn other_second(card: &[u8], layout: usize, number: usize) -> bool
 }
 
 // Whether a field is needed on the card as it stands once the field is blank.
-fn needed_after(card: &[u8], layout: usize, number: usize, f: Field) -> bool
+fn needed_after(card: &[u8], layout: usize, number: usize, row: u64) -> bool
     requires { ⌜ length (now card) ≡ 80 ⌝ }
-    ensures { λ r. ⌜ r ≡ neededAfter layout (now (card .entry)) number f ⌝ }
+    ensures { λ r. ⌜ r ≡ neededAfter layout (now (card .entry)) number (unpack row) ⌝ }
 {
-    if !f.needed {
+    if !fields::is_needed(row) {
         return false;
     }
-    if !f.second {
+    if !fields::is_second(row) {
         return true;
     }
     other_second(card, layout, number)
 }
 
 // Writes a value into its field's columns.
-fn write_value(card: &mut [u8], f: Field, grid: bool, v: Value) -> Entered
-    requires { ⌜ (1 ≤ f .first) × (f .first ≤ f .last) × (f .last ≤ length (now card)) ⌝ }
-    ensures answer { λ r. ⌜ r ≡ answerOf (byEntry f (now (card .entry)) (entryOf (spellingOf (f .kind) grid) (width f) v)) ⌝ }
-    ensures card { λ _. ⌜ now (card .exit) ≡ leftBy (byEntry f (now (card .entry)) (entryOf (spellingOf (f .kind) grid) (width f) v)) (now (card .entry)) ⌝ }
+fn write_value(card: &mut [u8], row: u64, grid: bool, v: Value) -> Entered
+    requires { ⌜ (1 ≤ unpack row .first) × (unpack row .first ≤ unpack row .last) × (unpack row .last ≤ length (now card)) ⌝ }
+    ensures answer { λ r. ⌜ r ≡ answerOf (byEntry (unpack row) (now (card .entry)) (entryOf (spellingOf (unpack row .kind) grid) (width (unpack row)) v)) ⌝ }
+    ensures card { λ _. ⌜ now (card .exit) ≡ leftBy (byEntry (unpack row) (now (card .entry)) (entryOf (spellingOf (unpack row .kind) grid) (width (unpack row)) v)) (now (card .entry)) ⌝ }
 {
-    let at = f.first - 1;
-    let last = f.last;
-    let kind = f.kind;
-    let spelling = judging::spelling_of(kind, grid);
+    let at = fields::first_of(row) - 1;
+    let last = fields::last_of(row);
+    let spelling = judging::spelling_of(fields::kind_of(row), grid);
     answer_for(writing::write(&mut card[at..last], spelling, v))
 }
 
 // Writes a text into its field's columns.
-fn write_text(card: &mut [u8], f: Field, grid: bool, text: &[u8]) -> Entered
-    requires { ⌜ (1 ≤ f .first) × (f .first ≤ f .last) × (f .last ≤ length (now card)) ⌝ }
-    ensures answer { λ r. ⌜ r ≡ answerOf (byEntry f (now (card .entry)) (textEntryOf (spellingOf (f .kind) grid) (width f) (now (text .entry)))) ⌝ }
-    ensures card { λ _. ⌜ now (card .exit) ≡ leftBy (byEntry f (now (card .entry)) (textEntryOf (spellingOf (f .kind) grid) (width f) (now (text .entry)))) (now (card .entry)) ⌝ }
+fn write_text(card: &mut [u8], row: u64, grid: bool, text: &[u8]) -> Entered
+    requires { ⌜ (1 ≤ unpack row .first) × (unpack row .first ≤ unpack row .last) × (unpack row .last ≤ length (now card)) ⌝ }
+    ensures answer { λ r. ⌜ r ≡ answerOf (byEntry (unpack row) (now (card .entry)) (textEntryOf (spellingOf (unpack row .kind) grid) (width (unpack row)) (now (text .entry)))) ⌝ }
+    ensures card { λ _. ⌜ now (card .exit) ≡ leftBy (byEntry (unpack row) (now (card .entry)) (textEntryOf (spellingOf (unpack row .kind) grid) (width (unpack row)) (now (text .entry)))) (now (card .entry)) ⌝ }
 {
-    let at = f.first - 1;
-    let last = f.last;
-    let kind = f.kind;
-    let spelling = judging::spelling_of(kind, grid);
+    let at = fields::first_of(row) - 1;
+    let last = fields::last_of(row);
+    let spelling = judging::spelling_of(fields::kind_of(row), grid);
     answer_for(writing::write_text(&mut card[at..last], spelling, text))
 }
 
 // Enters a value into a field that was found.
-fn enter(card: &mut [u8], layout: usize, number: usize, f: Field, grid: bool, v: Value) -> Entered
-    requires { ⌜ (length (now card) ≡ 80) × (1 ≤ f .first) × (f .first ≤ f .last) × (f .last ≤ 80) × T (ranged (f .kind) (f .range)) ⌝ }
-    ensures answer { λ r. ⌜ r ≡ answerOf (valuePut layout (now (card .entry)) number f grid v) ⌝ }
-    ensures card { λ _. ⌜ now (card .exit) ≡ leftBy (valuePut layout (now (card .entry)) number f grid v) (now (card .entry)) ⌝ }
+fn enter(card: &mut [u8], layout: usize, number: usize, row: u64, grid: bool, v: Value) -> Entered
+    requires { ⌜ (length (now card) ≡ 80) × (1 ≤ unpack row .first) × (unpack row .first ≤ unpack row .last) × (unpack row .last ≤ 80)
+        × T (ranged (unpack row .kind) (unpack row .range)) ⌝ }
+    ensures answer { λ r. ⌜ r ≡ answerOf (valuePut layout (now (card .entry)) number (unpack row) grid v) ⌝ }
+    ensures card { λ _. ⌜ now (card .exit) ≡ leftBy (valuePut layout (now (card .entry)) number (unpack row) grid v) (now (card .entry)) ⌝ }
 {
-    if !is_within(f, v) {
+    if !is_within(row, v) {
         return refused(10, 0);
     }
-    if is_absent(v) & needed_after(card, layout, number, f) {
-        let first = f.first;
-        return refused(11, first);
+    if is_absent(v) & needed_after(card, layout, number, row) {
+        return refused(11, fields::first_of(row));
     }
-    write_value(card, f, grid, v)
+    write_value(card, row, grid, v)
 }
 
 // Puts a value into the field with a number of a card, its coordinates in the form that is given.
@@ -149,7 +143,7 @@ pub fn put(card: &mut [u8], number: usize, form: usize, v: Value) -> Entered
     let way = seeking::seek(card, number, form);
     match way {
         Way::Refused(r) => Entered::Refused(r),
-        Way::At(k, row) => enter(card, k, number, finding::field_in(row), form == 1, v),
+        Way::At(k, row) => enter(card, k, number, row, form == 1, v),
     }
 }
 
@@ -161,6 +155,6 @@ pub fn put_text(card: &mut [u8], number: usize, form: usize, text: &[u8]) -> Ent
     let way = seeking::seek(card, number, form);
     match way {
         Way::Refused(r) => Entered::Refused(r),
-        Way::At(_, row) => write_text(card, finding::field_in(row), form == 1, text),
+        Way::At(_, row) => write_text(card, row, form == 1, text),
     }
 }

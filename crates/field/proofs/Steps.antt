@@ -1,9 +1,10 @@
 -- What each way through reading a field finds.
-use Prim.Native.Nat.{ℕ, _-_}
+use Prim.Native.Nat.{ℕ, _-_, _≤_}
+use native.Mathlib.Omega.{arith}
 use mathlib.Core.Path.{_≡_, refl}
 use mathlib.Core.List.{List, [], _∷_}
 use mathlib.Core.Bool.{true, false}
-use lib.ListN.{take, drop}
+use lib.ListN.{length, take, drop}
 use lib.Dec.{eqb}
 use denote.Enum.Declared.{tagOf}
 use types.Run.{OneOf, miss}
@@ -19,11 +20,26 @@ use Rattle.judging.specs.declared.Judged.the-variants as judged
 use Rattle.seeking.specs.declared.Sought.the-variants.{Is}
 use Rattle.seeking.specs.declared.Way.{Way}
 use Rattle.seeking.specs.declared.Way.the-variants as way
-use Rattle.seeking.specs.Card.{soughtOf, wayFor}
-use Rattle.seeking.proofs.Steps.{way-refused}
+use Rattle.seeking.specs.Card.{refusal, soughtOf, wayFor}
+use Rattle.layout.proofs.Numbers.{found-lies}
+use Rattle.seeking.proofs.Steps.{found-there, way-refused}
 use Rattle.judging.specs.Fields.{judgedOf}
 use Rattle.needing.specs.Needs.{columnsOf}
+use Rattle.field.specs.declared.FieldRead.the-variants as read
 use Rattle.field.specs.Reading.{answeredOf, fieldOn, fieldReading, holdsText, textOn, fieldText}
+
+-- a field that was found is where the functions below ask it to be
+pub found-fits : (s : List ℕ) (n form k : ℕ) (f : Field) → soughtOf s n form ≡ Is k f
+    → (length s ≡ 80) × (1 ≤ f .first) × (f .first ≤ f .last) × (f .last ≤ 80)
+found-fits s n form k f q =
+    let h = found-there s n form k f q in
+    let l = found-lies k n f (h .field) in
+    (h .whole, omega (arith, l .after), l .forward, l .on-card)
+
+-- the answer for a field, at its first column
+pub answered-not : (f : Field) (j : Judged) (n column : ℕ) → j ≡ judged.Not n → column ≡ f .first → read.Refused (refusal n 1 column) ≡ answeredOf f j
+unfolding answeredOf
+answered-not f j n column q e = rw (q, e)
 
 -- what reading a field puts together
 pub reading-is : (s : List ℕ) (n form k : ℕ) (f : Field) → soughtOf s n form ≡ Is k f → (j : Judged) → j ≡ judgedOf k s f (eqb form 1)
@@ -57,6 +73,7 @@ module _ (s : List ℕ) (n form k : ℕ) (f : Field) (q : soughtOf s n form ≡ 
   unfolding fieldText textOn
   text-none h = rw (q, ← e, h)
 
-  pub text-is : holdsText j ≡ true → (t : List ℕ) → t ≡ take (f .last - (f .first - 1)) (drop (f .first - 1) s) → textOf t ≡ fieldText s n form
+  pub text-is : holdsText j ≡ true → (first last : ℕ) → first ≡ f .first → last ≡ f .last
+      → (t : List ℕ) → t ≡ take (last - (first - 1)) (drop (first - 1) s) → textOf t ≡ fieldText s n form
   unfolding fieldText textOn columnsOf
-  text-is h t a = rw (q, ← e, h, a)
+  text-is h first last a b t c = rw (q, ← e, h, c, a, b)

@@ -1,10 +1,10 @@
 // One field of one card, read by its number: its value, or its text.
 use judging::Judged;
-use layout::Field;
 use seeking::Refusal;
 use seeking::Way;
 use spelling::Value;
 ghost use mathlib.Core.Path.{_≡_};
+ghost use Rattle.layout.specs.Packed.{unpack};
 ghost use Rattle.field.specs.Reading.{answeredOf, fieldReading, holdsText, fieldText};
 
 // The answer to reading a field.
@@ -13,14 +13,14 @@ pub enum FieldRead {
     Refused(Refusal),
 }
 
-// The answer for a field: its value, or its offence at its first column.
-fn answered(f: Field, j: Judged) -> FieldRead
-    ensures { λ r. ⌜ r ≡ answeredOf f j ⌝ }
+// The answer for the field that a row holds: its value, or its offence at its first column.
+fn answered(row: u64, j: Judged) -> FieldRead
+    ensures { λ r. ⌜ r ≡ answeredOf (unpack row) j ⌝ }
 {
     match j {
         Judged::Is(v) => FieldRead::Is(v),
         Judged::Not(number) => {
-            let column = f.first;
+            let column = fields::first_of(row);
             FieldRead::Refused(Refusal {
                 number,
                 card: 1,
@@ -37,10 +37,7 @@ pub fn read_field(card: &[u8], number: usize, form: usize) -> FieldRead
     let way = seeking::seek(card, number, form);
     match way {
         Way::Refused(r) => FieldRead::Refused(r),
-        Way::At(k, row) => {
-            let f = finding::field_in(row);
-            answered(f, judging::judge(card, k, f, form == 1))
-        }
+        Way::At(k, row) => answered(row, judging::judge(card, k, row, form == 1)),
     }
 }
 
@@ -62,11 +59,10 @@ pub fn read_text(card: &[u8], number: usize, form: usize) -> &[u8]
     let Way::At(k, row) = way else {
         return &card[..0];
     };
-    let f = finding::field_in(row);
-    if !holds_text(judging::judge(card, k, f, form == 1)) {
+    if !holds_text(judging::judge(card, k, row, form == 1)) {
         return &card[..0];
     }
-    let first = f.first;
-    let last = f.last;
+    let first = fields::first_of(row);
+    let last = fields::last_of(row);
     text::stretch(needing::columns(card, first, last))
 }

@@ -32,6 +32,20 @@ pub fn last_of(row: u64) -> usize
     tens(row % 256) as usize
 }
 
+// Whether it is needed.
+pub fn is_needed(row: u64) -> bool
+    ensures { λ r. ⌜ r ≡ unpack row .needed ⌝ }
+{
+    row / 0x1_00_00 % 2 == 1
+}
+
+// Whether it belongs to a second set.
+pub fn is_second(row: u64) -> bool
+    ensures { λ r. ⌜ r ≡ unpack row .second ⌝ }
+{
+    row / 0x2_00_00 % 2 == 1
+}
+
 fn kind_by(number: u64) -> Kind
     ensures { λ r. ⌜ r ≡ kindOf number ⌝ }
 {

@@ -6,16 +6,16 @@ ghost use lib.ListN.{length};
 ghost use Rattle.layout.specs.Layouts.{fieldsOf, fieldOf};
 ghost use Rattle.layout.specs.Packed.{unpack};
 
-// The field itself.
-pub fn field_in(row: u64) -> Field
+// The field that a row holds.
+fn field_in(row: u64) -> Field
     ensures { λ r. ⌜ r ≡ unpack row ⌝ }
 {
     Field {
         kind: fields::kind_of(row),
         first: fields::first_of(row),
         last: fields::last_of(row),
-        needed: row / 0x1_00_00 % 2 == 1,
-        second: row / 0x2_00_00 % 2 == 1,
+        needed: fields::is_needed(row),
+        second: fields::is_second(row),
         range: fields::range_of(row),
     }
 }

@@ -1,5 +1,5 @@
 -- What each way through judging a field finds.
-use Prim.Native.Nat.{ℕ, _-_, _≤_, min}
+use Prim.Native.Nat.{ℕ, _+_, _-_, _≤_, min}
 use native.Mathlib.Omega.{arith}
 use mathlib.Core.Path.{_≡_, refl, sym, ap, _∙_}
 use mathlib.Core.List.{List}
@@ -20,6 +20,7 @@ use Rattle.position.specs.Angles.{angleOf}
 use Rattle.grid.specs.Grid.{gridOf}
 use Rattle.text.specs.Texts.{textEnd, leadingBlank}
 use Rattle.text.proofs.Agreed.{end-le}
+use Rattle.spelling.specs.declared.Columns.{Columns}
 use Rattle.spelling.specs.declared.Value.{Value}
 use Rattle.spelling.specs.declared.Value.the-variants as value
 use Rattle.spelling.specs.declared.Reading.{Reading}
@@ -28,6 +29,8 @@ use Rattle.spelling.specs.declared.Spelling.{Spelling}
 use Rattle.spelling.specs.declared.Spelling.the-variants as spelled
 use Rattle.spelling.specs.Reading.{textReading, wholeReading, decimalReading, dateReading, angleReading, readingOf}
 use Rattle.layout.specs.declared.Field.{Field}
+use Rattle.layout.specs.declared.Kind.{Kind}
+use Rattle.layout.specs.declared.Range.{Range}
 use Rattle.ranges.specs.Ranges.{inRange}
 use Rattle.judging.specs.declared.Judged.the-variants as judged
 use Rattle.needing.specs.Needs.{columnsOf, neededOn}
@@ -98,13 +101,19 @@ module _ (needed : Bool) (f : Field) (v : Value) where
   unfolding valueOf
   value-absent q h = rw (q, h)
 
-  pub value-within : (z y : ℤ) → v ≡ value.Whole z → y ≡ z → inRange (f .range) y ≡ true → valueOf needed f v ≡ judged.Is (value.Whole y)
-  unfolding valueOf
-  value-within z y q e h = rw (q, ← e, h)
+  module _ (z y : ℤ) (q : v ≡ value.Whole z) (e : y ≡ z) (g : Range) (r : g ≡ f .range) where
+    pub value-within : inRange g y ≡ true → valueOf needed f v ≡ judged.Is (value.Whole y)
+    unfolding valueOf
+    value-within h = rw (q, ← e, ← r, h)
 
-  pub value-outside : (z y : ℤ) → v ≡ value.Whole z → y ≡ z → inRange (f .range) y ≡ false → valueOf needed f v ≡ judged.Not 10
+    pub value-outside : inRange g y ≡ false → valueOf needed f v ≡ judged.Not 10
+    unfolding valueOf
+    value-outside h = rw (q, ← e, ← r, h)
+
+  pub value-text : (c : Columns) → v ≡ value.Text c → (first : ℕ) → first ≡ f .first
+      → valueOf needed f v ≡ judged.Is (value.Text (record { first = first; last = first - 1 + c .last }))
   unfolding valueOf
-  value-outside z y q e h = rw (q, ← e, h)
+  value-text c q first e = rw (q, ← e)
 
 -- a field's columns are no more than a card has
 pub columns-few : (s t : List ℕ) (first last : ℕ) → last ≤ 80 → t ≡ take (last - (first - 1)) (drop (first - 1) s) → length t ≤ 80
@@ -113,8 +122,8 @@ columns-few s t first last h e =
     omega arith
 
 -- what judging a field puts together
-pub judged-is : (k : ℕ) (s : List ℕ) (f : Field) (grid : Bool) (t : List ℕ) (r : Reading) (x : Spelling) (needed : Bool)
-    → t ≡ take (f .last - (f .first - 1)) (drop (f .first - 1) s) → x ≡ spellingOf (f .kind) grid → r ≡ readingOf x t → needed ≡ neededOn k s f
-    → heldOf needed f r ≡ judgedOf k s f grid
+pub judged-is : (k : ℕ) (s : List ℕ) (f : Field) (grid : Bool) (first last : ℕ) → first ≡ f .first → last ≡ f .last
+    → (t : List ℕ) → t ≡ take (last - (first - 1)) (drop (first - 1) s) → (d : Kind) → d ≡ f .kind → (x : Spelling) → x ≡ spellingOf d grid
+    → (r : Reading) → r ≡ readingOf x t → (needed : Bool) → needed ≡ neededOn k s f → heldOf needed f r ≡ judgedOf k s f grid
 unfolding judgedOf columnsOf
-judged-is k s f grid t r x needed a b c d = rw (d, c, b, a)
+judged-is k s f grid first last a b t c d e x g r h needed i = rw (i, h, g, e, c, a, b)

@@ -1,5 +1,4 @@
 // One field of a card, judged: its columns read by its spelling, and held against its need and its range.
-use layout::Field;
 use layout::Kind;
 use spelling::Columns;
 use spelling::Reading;
@@ -8,6 +7,7 @@ use spelling::Value;
 ghost use mathlib.Core.Path.{_≡_};
 ghost use Prim.Native.Nat.{_≤_};
 ghost use lib.ListN.{length};
+ghost use Rattle.layout.specs.Packed.{unpack};
 ghost use Rattle.judging.specs.Fields.{spellingOf, textLast, readLast, valueOf, heldOf, judgedOf};
 
 // What a field says, or the number of its offence.
@@ -42,9 +42,9 @@ pub fn spelling_of(kind: Kind, grid: bool) -> Spelling
 }
 
 // A value held against its field's need and range.
-fn value_of(needed: bool, f: Field, v: Value) -> Judged
-    requires { ⌜ (1 ≤ f .first) × (f .first ≤ 80) × (textLast v ≤ 80) ⌝ }
-    ensures { λ r. ⌜ r ≡ valueOf needed f v ⌝ }
+fn value_of(needed: bool, row: u64, v: Value) -> Judged
+    requires { ⌜ (1 ≤ unpack row .first) × (unpack row .first ≤ 80) × (textLast v ≤ 80) ⌝ }
+    ensures { λ r. ⌜ r ≡ valueOf needed (unpack row) v ⌝ }
 {
     match v {
         Value::Absent => {
@@ -54,8 +54,7 @@ fn value_of(needed: bool, f: Field, v: Value) -> Judged
             Judged::Is(Value::Absent)
         }
         Value::Whole(z) => {
-            let range = f.range;
-            if ranges::in_range(range, z) {
+            if ranges::in_range(fields::range_of(row), z) {
                 return Judged::Is(Value::Whole(z));
             }
             Judged::Not(10)
@@ -64,7 +63,7 @@ fn value_of(needed: bool, f: Field, v: Value) -> Judged
         Value::Angle(z) => Judged::Is(Value::Angle(z)),
         Value::Date(d) => Judged::Is(Value::Date(d)),
         Value::Text(c) => {
-            let first = f.first;
+            let first = fields::first_of(row);
             let last = first - 1 + c.last;
             Judged::Is(Value::Text(Columns { first, last }))
         }
@@ -72,25 +71,23 @@ fn value_of(needed: bool, f: Field, v: Value) -> Judged
 }
 
 // A reading held against its field's need and range.
-fn held_of(needed: bool, f: Field, r: Reading) -> Judged
-    requires { ⌜ (1 ≤ f .first) × (f .first ≤ 80) × (readLast r ≤ 80) ⌝ }
-    ensures { λ j. ⌜ j ≡ heldOf needed f r ⌝ }
+fn held_of(needed: bool, row: u64, r: Reading) -> Judged
+    requires { ⌜ (1 ≤ unpack row .first) × (unpack row .first ≤ 80) × (readLast r ≤ 80) ⌝ }
+    ensures { λ j. ⌜ j ≡ heldOf needed (unpack row) r ⌝ }
 {
     match r {
-        Reading::Held(v) => value_of(needed, f, v),
+        Reading::Held(v) => value_of(needed, row, v),
         Reading::Malformed => Judged::Not(9),
         Reading::OutOfRange => Judged::Not(10),
     }
 }
 
-// What a field of a card says, or the number of its offence.
-pub fn judge(card: &[u8], layout: usize, f: Field, grid: bool) -> Judged
-    requires { ⌜ (length (now card) ≡ 80) × (1 ≤ f .first) × (f .first ≤ f .last) × (f .last ≤ 80) ⌝ }
-    ensures { λ r. ⌜ r ≡ judgedOf layout (now (card .entry)) f grid ⌝ }
+// What the field that a row holds says on a card, or the number of its offence.
+pub fn judge(card: &[u8], layout: usize, row: u64, grid: bool) -> Judged
+    requires { ⌜ (length (now card) ≡ 80) × (1 ≤ unpack row .first) × (unpack row .first ≤ unpack row .last) × (unpack row .last ≤ 80) ⌝ }
+    ensures { λ r. ⌜ r ≡ judgedOf layout (now (card .entry)) (unpack row) grid ⌝ }
 {
-    let first = f.first;
-    let last = f.last;
-    let kind = f.kind;
-    let reading = spelling::read(needing::columns(card, first, last), spelling_of(kind, grid));
-    held_of(needing::needed_on(card, layout, f), f, reading)
+    let columns = needing::columns(card, fields::first_of(row), fields::last_of(row));
+    let reading = spelling::read(columns, spelling_of(fields::kind_of(row), grid));
+    held_of(needing::needed_on(card, layout, row), row, reading)
 }

@@ -5,6 +5,7 @@ ghost use mathlib.Core.Path.{_≡_};
 ghost use Prim.Native.Nat.{_≤_, _-_};
 ghost use lib.ListN.{length, take, drop};
 ghost use Rattle.layout.specs.Layouts.{fieldsOf, fieldOf};
+ghost use Rattle.layout.specs.Packed.{unpack};
 ghost use Rattle.needing.specs.Needs.{isBlank, secondAt, secondBy, anySecond, neededOn};
 
 // The columns of a field, as a part of the card.
@@ -63,15 +64,15 @@ fn any_second(card: &[u8], layout: usize) -> bool
     false
 }
 
-// Whether a field is needed on the card as it stands.
-pub fn needed_on(card: &[u8], layout: usize, f: Field) -> bool
+// Whether the field that a row holds is needed on the card as it stands.
+pub fn needed_on(card: &[u8], layout: usize, row: u64) -> bool
     requires { ⌜ length (now card) ≡ 80 ⌝ }
-    ensures { λ r. ⌜ r ≡ neededOn layout (now (card .entry)) f ⌝ }
+    ensures { λ r. ⌜ r ≡ neededOn layout (now (card .entry)) (unpack row) ⌝ }
 {
-    if !f.needed {
+    if !fields::is_needed(row) {
         return false;
     }
-    if !f.second {
+    if !fields::is_second(row) {
         return true;
     }
     any_second(card, layout)

@@ -190,12 +190,12 @@ module _ (k : ℕ) (s : List ℕ) (f : Field) (grid : Bool) (first last n : ℕ)
   pub offence-other : (n ≡ 11 → ⊥) → numberOf (judgedOf k s f grid) ≡ n
   offence-other h = judged ∙ rw (ne-eqb n 11 h)
 
-  module _ (missing : n ≡ 11) (g : Field) (same : g ≡ f) (needed : Bool) (on : needed ≡ neededOn k s g) where
+  module _ (missing : n ≡ 11) (needed : Bool) (on : needed ≡ neededOn k s f) where
     pub offence-missing : needed ≡ true → numberOf (judgedOf k s f grid) ≡ 11
-    offence-missing h = judged ∙ rw (eq-eqb n 11 missing, ← same, ← on, h)
+    offence-missing h = judged ∙ rw (eq-eqb n 11 missing, ← on, h)
 
     pub offence-none : needed ≡ false → numberOf (judgedOf k s f grid) ≡ 0
-    offence-none h = judged ∙ rw (eq-eqb n 11 missing, ← same, ← on, h)
+    offence-none h = judged ∙ rw (eq-eqb n 11 missing, ← on, h)
 
 -- a field has a column
 pub columns-some : (s : List ℕ) (first last : ℕ) → length s ≡ 80 → 1 ≤ first → first ≤ last → last ≤ 80

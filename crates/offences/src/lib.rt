@@ -150,7 +150,7 @@ pub fn offence(card: &[u8], layout: usize, row: u64, grid: bool) -> usize
     if number != MISSING {
         return number;
     }
-    if needing::needed_on(card, layout, finding::field_in(row)) {
+    if needing::needed_on(card, layout, row) {
         return MISSING;
     }
     FINE

@@ -1,3 +1,4 @@
+pub mod Columns
 pub mod Reading
 pub mod Writing
 pub mod Filled

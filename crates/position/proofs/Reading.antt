@@ -11,7 +11,6 @@ use lib.IntN.{ℤ}
 use borrow.Author.Tests.{eq-eqb, ne-eqb, lt-ltb, le-ltb, le-leb, lt-leb}
 use Rattle.digits.specs.Figures.{blanks, unpadded, leading, behind, valueFrom, capped}
 use Rattle.digits.proofs.Numbers.{value-below}
-use Rattle.digits.proofs.Parts.{rest-part}
 use Rattle.digits.proofs.Walk.{leading-take}
 use Rattle.number.specs.Reading.{pointOf, figuresOf}
 use Rattle.signs.specs.Signs.{signedOf}
@@ -22,10 +21,6 @@ use Rattle.position.specs.Angles.{part, paddedOf, unitsOf, partsOf, isSp
 use Rattle.axes.specs.declared.Axis.{Axis}
 use Rattle.position.specs.declared.Parts.{Parts}
 use Rattle.position.specs.declared.Angled.the-variants.{Absent, Held, Malformed, OutOfRange}
-
-pub padded-is : (s : List ℕ) (at : ℕ) → at ≡ blanks s → figuresOf false (take (length s - at) (drop at s)) ≡ paddedOf s
-unfolding paddedOf unpadded
-padded-is s at e = ap (figuresOf false) (rest-part at s ∙ ap (λ k. drop k s) e)
 
 pub same-parts : {d e m n s r t u : Figures} → d ≡ e → m ≡ n → s ≡ r → t ≡ u
     → _≡_ {A = Parts} (record { degrees = d; minutes = m; seconds = s; thousandths = t }) (record { degrees = e; minutes = n; seconds = r; thousandths = u })

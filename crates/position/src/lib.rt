@@ -1,10 +1,16 @@
 // Coordinates in columns in form 0: angles in degrees, minutes and seconds.
 use axes::Axis;
 ghost use mathlib.Core.Path.{_≡_};
+ghost use mathlib.Core.List.{[], _∷_};
+ghost use mathlib.Core.Bool.{false};
 ghost use Prim.Native.Nat.{_<_, _≤_};
 ghost use lib.ListN.{length};
+ghost use Rattle.digits.specs.Figures.{isDigit};
 ghost use Rattle.digits.specs.Columns.{answerOf, enteredIn};
+ghost use Rattle.number.specs.Reading.{figuresOf};
 ghost use Rattle.position.specs.Angles.{paddedOf, isNumber, unitsOf, partsOf, isSpelled, angledOf, angleOf, figuresIn, angleIn};
+
+const BLANK: u8 = 32;
 
 const POINT: u8 = 46;
 
@@ -50,23 +56,61 @@ fn units(figures: number::Figures) -> u64
     }
 }
 
-// Reads digits that blanks may pad on the left.
-fn padded(s: &[u8]) -> number::Figures
-    ensures { λ r. ⌜ r ≡ paddedOf (now (s .entry)) ⌝ }
+// Whether a byte is a digit.
+fn is_digit(b: u8) -> bool
+    ensures { λ r. ⌜ r ≡ isDigit b ⌝ }
 {
-    let at = digits::padding(s);
-    number::figures_in(&s[at..], false)
+    (48 <= b) & (b <= 57)
 }
 
-// Reads the parts of an angle.
+// Reads two columns that blanks may pad on the left.
+fn two_columns(a: u8, b: u8) -> number::Figures
+    ensures { λ r. ⌜ r ≡ paddedOf (a ∷ b ∷ []) ⌝ }
+{
+    if !is_digit(b) {
+        return number::Figures::Not;
+    }
+    if a == BLANK {
+        return number::Figures::Units((b - 48) as u64, 0);
+    }
+    if !is_digit(a) {
+        return number::Figures::Not;
+    }
+    number::Figures::Units((a - 48) as u64 * 10 + (b - 48) as u64, 0)
+}
+
+// Reads three columns that nothing pads.
+fn three_digits(a: u8, b: u8, c: u8) -> number::Figures
+    ensures { λ r. ⌜ r ≡ figuresOf false (a ∷ b ∷ c ∷ []) ⌝ }
+{
+    if !((is_digit(a) & is_digit(b)) & is_digit(c)) {
+        return number::Figures::Not;
+    }
+    number::Figures::Units(
+        ((a - 48) as u64 * 10 + (b - 48) as u64) * 10 + (c - 48) as u64,
+        0,
+    )
+}
+
+// Reads three columns that blanks may pad on the left.
+fn three_columns(a: u8, b: u8, c: u8) -> number::Figures
+    ensures { λ r. ⌜ r ≡ paddedOf (a ∷ b ∷ c ∷ []) ⌝ }
+{
+    if a == BLANK {
+        return two_columns(b, c);
+    }
+    three_digits(a, b, c)
+}
+
+// Reads the parts of an angle, byte by byte: in so few columns a walk costs more than the digits.
 fn parts_in(s: &[u8]) -> Parts
     requires { ⌜ length (now s) ≡ 12 ⌝ }
     ensures { λ r. ⌜ r ≡ partsOf (now (s .entry)) ⌝ }
 {
-    let degrees = padded(&s[0..3]);
-    let minutes = padded(&s[3..5]);
-    let seconds = padded(&s[5..7]);
-    let thousandths = number::figures_in(&s[8..11], false);
+    let degrees = three_columns(s[0], s[1], s[2]);
+    let minutes = two_columns(s[3], s[4]);
+    let seconds = two_columns(s[5], s[6]);
+    let thousandths = three_digits(s[8], s[9], s[10]);
     Parts {
         degrees,
         minutes,

@@ -126,7 +126,7 @@ module _ (s : List ℕ) (n form k : ℕ) (f : Field) (q : soughtOf s n form ≡ 
 
   handed : holdsText (judgedOf k s f (eqb form 1)) ≡ true → textOf (columnsOf f s) ≡ fieldText s n form
   unfolding columnsOf
-  handed h = text-is s n form k f q (judgedOf k s f (eqb form 1)) refl h (columnsOf f s) refl
+  handed h = text-is s n form k f q (judgedOf k s f (eqb form 1)) refl h (f .first) (f .last) refl refl (columnsOf f s) refl
 
   -- a value whose need the card met does not become needed by being put again
   still-free : (v : Value) → readingOf (spellingIn f form) (columnsOf f s) ≡ reading.Held v

@@ -123,15 +123,15 @@ found-row k n f e = go (eqb (rowOf k n) 0) (found-in k n counted ∙ e)
     go false h = cc
 
 module _ (s : List ℕ) (n form : ℕ) (w : Way) (e : w ≡ wayFor n (soughtOf s n form)) where
-  pub way-at : (k r : ℕ) (f : Field) → w ≡ way.At k r → f ≡ unpack r → soughtOf s n form ≡ Is k f
+  pub way-at : (k r : ℕ) → w ≡ way.At k r → soughtOf s n form ≡ Is k (unpack r)
   unfolding wayFor
-  way-at k r f h q = go (soughtOf s n form) refl (sym h ∙ e)
+  way-at k r h = go (soughtOf s n form) refl (sym h ∙ e)
     where
-      go : (o : Sought) → soughtOf s n form ≡ o → way.At k r ≡ wayFor n o → soughtOf s n form ≡ Is k f
+      go : (o : Sought) → soughtOf s n form ≡ o → way.At k r ≡ wayFor n o → soughtOf s n form ≡ Is k (unpack r)
       go (Is j g) p d =
           let a : j ≡ k = cc in
           let b : r ≡ rowOf j n = cc in
-          let c : g ≡ f = sym (found-row j n g (found-there s n form j g p .field)) ∙ ap unpack (sym b) ∙ sym q in
+          let c : g ≡ unpack r = sym (found-row j n g (found-there s n form j g p .field)) ∙ ap unpack (sym b) in
           p ∙ ap (λ (i : ℕ). Is i g) a ∙ ap (λ (x : Field). Is k x) c
       go (Refused x) p d = absurd (true≢false cc)
 

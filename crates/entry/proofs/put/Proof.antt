@@ -1,10 +1,9 @@
 -- `entry::put` meets its contract.
 use denote.Ref.{now}
-use mathlib.Core.Path.{_≡_, refl, sym, ap, _∙_}
-use native.Mathlib.Omega.{arith}
-use borrow.Author.Needs.{needs}
+use mathlib.Core.Path.{refl}
 use Rattle.seeking.proofs.Steps.{way-at, way-refused}
 use Rattle.entry.proofs.Steps.{value-is, value-stays, field-fits, same-putting, stayed}
+use borrow.Author.Needs.{needs}
 use Rattle.entry.proofs.put.Statement.{statement}
 use Rattle.entry.proofs.put.Tie as tie
 
@@ -17,38 +16,27 @@ enum-known-way c = search needs
 enum-known-way-2 : tie.Need-enum-known-way-2
 enum-known-way-2 c = search needs
 
-field-in-requires : tie.Need-field-in-requires
-field-in-requires c κs = search needs
-
 enter-requires : tie.Need-enter-requires
 enter-requires c κs =
-    let w = c .before .before .before in
-    let k = w .before .before in
-    let s = now (k .before .before .before .args .card) in
-    let q = way-at s _ _ _ (k .seek .ensures) _ _ (c .field-in .result) (w .way2 .given .1) (c .field-in .ensures) in
-    field-fits s _ _ _ (c .field-in .result) q
+    let s = now (c .before .before .before .before .before .before .before .args .card) in
+    field-fits s _ _ _ _ (way-at s _ _ _ (c .before .before .before .before .seek .ensures) _ _ (c .before .before .way2 .given .1))
 
 same-length : tie.Need-same-length
 same-length c = search needs
 
 returns : tie.Need-returns
 returns c =
-    let k = c .before .before .before in
-    let s = now (k .before .before .before .args .card) in
-    stayed _ _ (value-stays s _ _ _ (way-refused s _ _ _ (k .seek .ensures) _ (c .before .way .given .1)) _) refl
+    let s = now (c .before .before .before .before .before .before .args .card) in
+    stayed _ _ (value-stays s _ _ _ (way-refused s _ _ _ (c .before .before .before .seek .ensures) _ (c .before .way .given .1)) _) refl
 
 same-length-2 : tie.Need-same-length-2
 same-length-2 c = search needs
 
 returns-2 : tie.Need-returns-2
 returns-2 c =
+    let s = now (c .before .before .before .before .before .before .before .before .before .before .args .card) in
     let e = c .before .before in
-    let i = e .before in
-    let w = i .before .before .before in
-    let k = w .before .before in
-    let s = now (k .before .before .before .args .card) in
-    let q = way-at s _ _ _ (k .seek .ensures) _ _ (i .field-in .result) (w .way2 .given .1) (i .field-in .ensures) in
-    same-putting s (e .enter .last .0) _ (value-is s _ _ _ (i .field-in .result) q _ refl _) (e .enter .ensures .0) (e .enter .ensures .1)
+    same-putting s (e .enter .last .0) _ (value-is s _ _ _ _ (way-at s _ _ _ (c .before .before .before .before .before .before .before .seek .ensures) _ _ (c .before .before .before .before .before .way2 .given .1)) _ refl _) (e .enter .ensures .0) (e .enter .ensures .1)
 
 pub put-spec : {M : Type 1} → statement M
 put-spec =
@@ -57,7 +45,6 @@ put-spec =
     seek-requires
     enum-known-way
     enum-known-way-2
-    field-in-requires
     enter-requires
     same-length
     returns

@@ -1,30 +1,28 @@
+-- `field::answered` meets its contract.
+use mathlib.Core.Path.{sym, ap}
+use Rattle.layout.specs.Packed.{unpack}
 use Rattle.field.specs.Reading.{answeredOf}
-use denote.Ref.{now}
-use mathlib.Core.Path.{_≡_, refl, sym, ap, _∙_}
-use native.Mathlib.Omega.{arith}
+use Rattle.field.proofs.Steps.{answered-not}
 use borrow.Author.Needs.{needs}
 use Rattle.field.proofs.answered.Statement.{statement}
 use Rattle.field.proofs.answered.Tie as tie
-use Rattle.field.proofs.answered.Reads as reads
-use Rattle.field.proofs.answered.Lts as lts
 
--- src/lib.rt:265:20
 enum-known-j : tie.Need-enum-known-j
 enum-known-j c = search needs
 
--- src/lib.rt:266:21
 enum-known-j-2 : tie.Need-enum-known-j-2
 enum-known-j-2 c = search needs
 
--- src/lib.rt:261:1
+first-of-requires : tie.Need-first-of-requires
+first-of-requires c κs = search needs
+
 returns : tie.Need-returns
 unfolding answeredOf
-returns c = sym (ap (answeredOf (c .before .before .before .args .f)) (c .before .j .given .1))
+returns c = sym (ap (answeredOf (unpack (c .before .before .before .args .row))) (c .before .j .given .1))
 
--- src/lib.rt:261:1
 returns-2 : tie.Need-returns-2
-unfolding answeredOf
-returns-2 c = sym (ap (answeredOf (c .before .before .before .args .f)) (c .before .j2 .given .1))
+returns-2 c = answered-not _ _ _ _ (c .before .before .j2 .given .1) (c .first-of .ensures)
 
 pub answered-spec : {M : Type 1} → statement M
-answered-spec = tie.close (tie.spec enum-known-j enum-known-j-2 returns returns-2)
+answered-spec =
+    tie.close (tie.spec enum-known-j enum-known-j-2 first-of-requires returns returns-2)

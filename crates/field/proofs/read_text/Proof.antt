@@ -1,12 +1,11 @@
 -- `field::read_text` meets its contract.
 use denote.Ref.{now}
-use mathlib.Core.Path.{_≡_, refl, sym, ap, _∙_}
 use native.Mathlib.Omega.{arith}
-use borrow.Author.Needs.{needs}
+use mathlib.Core.Path.{sym, _∙_}
 use borrow.Author.Tests.{not-true, not-false}
-use Rattle.layout.proofs.Numbers.{found-lies}
-use Rattle.seeking.proofs.Steps.{found-there, way-at}
-use Rattle.field.proofs.Steps.{text-refused, text-none, text-is}
+use Rattle.seeking.proofs.Steps.{way-at}
+use Rattle.field.proofs.Steps.{found-fits, text-refused, text-none, text-is}
+use borrow.Author.Needs.{needs}
 use Rattle.field.proofs.read_text.Statement.{statement}
 use Rattle.field.proofs.read_text.Tie as tie
 
@@ -23,22 +22,12 @@ slice-aggregate-result : tie.Need-slice-aggregate-result
 slice-aggregate-result c = search needs
 
 returns : tie.Need-returns
-returns c =
-    let k = c .before .before .before in
-    sym (text-refused (now (k .before .before .args .card)) _ _ _ (k .seek .ensures) (c .before .before .match .keys2))
-
-field-in-requires : tie.Need-field-in-requires
-field-in-requires c κs = search needs
+returns c = sym (text-refused (now (c .before .before .before .before .before .args .card)) _ _ _ (c .before .before .before .seek .ensures) (c .before .before .match .keys2))
 
 judge-requires : tie.Need-judge-requires
 judge-requires c κs =
-    let w = c .before .before in
-    let k = w .before .before in
-    let s = now (k .before .before .args .card) in
-    let q = way-at s _ _ _ (k .seek .ensures) _ _ (c .field-in .result) (w .way .given .1) (c .field-in .ensures) in
-    let h = found-there s _ _ _ (c .field-in .result) q in
-    let l = found-lies _ _ (c .field-in .result) (h .field) in
-    (h .whole, omega (arith, l .after), l .forward, l .on-card)
+    let s = now (c .before .before .before .before .before .args .card) in
+    found-fits s _ _ _ _ (way-at s _ _ _ (c .before .before .before .seek .ensures) _ _ (c .before .way .given .1))
 
 holds-text-requires : tie.Need-holds-text-requires
 holds-text-requires c κs = search needs
@@ -48,38 +37,31 @@ slice-aggregate-result-2 c = search needs
 
 returns-2 : tie.Need-returns-2
 returns-2 c =
-    let j = c .before .before .before in
-    let i = j .before in
-    let w = i .before .before in
-    let k = w .before .before in
-    let s = now (k .before .before .args .card) in
-    let q = way-at s _ _ _ (k .seek .ensures) _ _ (i .field-in .result) (w .way .given .1) (i .field-in .ensures) in
-    sym (text-none s _ _ _ (i .field-in .result) q _ (j .judge .ensures) (sym (c .before .before .holds-text .ensures) ∙ not-true _ (c .before .if1 .taken)))
+    let s = now (c .before .before .before .before .before .before .before .before .before .args .card) in
+    let q = way-at s _ _ _ (c .before .before .before .before .before .before .before .seek .ensures) _ _ (c .before .before .before .before .before .way .given .1) in
+    sym (text-none s _ _ _ _ q _ (c .before .before .before .judge .ensures) (sym (c .before .before .holds-text .ensures) ∙ not-true _ (c .before .if1 .taken)))
+
+first-of-requires : tie.Need-first-of-requires
+first-of-requires c κs = search needs
+
+last-of-requires : tie.Need-last-of-requires
+last-of-requires c κs = search needs
 
 columns-requires : tie.Need-columns-requires
 columns-requires c κs =
-    let i = c .before .before .before in
-    let w = i .before .before in
-    let k = w .before .before in
-    let s = now (k .before .before .args .card) in
-    let q = way-at s _ _ _ (k .seek .ensures) _ _ (i .field-in .result) (w .way .given .1) (i .field-in .ensures) in
-    let h = found-there s _ _ _ (i .field-in .result) q in
-    let l = found-lies _ _ (i .field-in .result) (h .field) in
-    (omega (arith, l .after), l .forward, omega (arith, h .whole, l .on-card))
+    let s = now (c .before .before .before .before .before .before .before .before .before .before .args .card) in
+    let h = found-fits s _ _ _ _ (way-at s _ _ _ (c .before .before .before .before .before .before .before .before .seek .ensures) _ _ (c .before .before .before .before .before .before .way .given .1)) in
+    (omega (arith, h .1, c .before .first-of .ensures), omega (arith, h .2, c .before .first-of .ensures, c .last-of .ensures), omega (arith, h .0, h .3, c .last-of .ensures))
 
 stretch-requires : tie.Need-stretch-requires
 stretch-requires c κs = search needs
 
 returns-3 : tie.Need-returns-3
 returns-3 c =
-    let j = c .before .before .before .before in
-    let i = j .before in
-    let w = i .before .before in
-    let k = w .before .before in
-    let s = now (k .before .before .args .card) in
-    let q = way-at s _ _ _ (k .seek .ensures) _ _ (i .field-in .result) (w .way .given .1) (i .field-in .ensures) in
+    let s = now (c .before .before .before .before .before .before .before .before .before .before .before .before .args .card) in
+    let q = way-at s _ _ _ (c .before .before .before .before .before .before .before .before .before .before .seek .ensures) _ _ (c .before .before .before .before .before .before .before .before .way .given .1) in
     c .stretch .ensures
-    ∙ text-is s _ _ _ (i .field-in .result) q _ (j .judge .ensures) (sym (c .before .before .before .holds-text .ensures) ∙ not-false _ (c .before .before .if1 .left)) (now (c .before .columns .result)) (c .before .columns .ensures)
+    ∙ text-is s _ _ _ _ q _ (c .before .before .before .before .before .before .judge .ensures) (sym (c .before .before .before .before .before .holds-text .ensures) ∙ not-false _ (c .before .before .before .before .if1 .left)) _ _ (c .before .before .before .first-of .ensures) (c .before .before .last-of .ensures) (now (c .before .columns .result)) (c .before .columns .ensures)
 
 pub read-text-spec : {M : Type 1} → statement M
 read-text-spec =
@@ -90,11 +72,12 @@ read-text-spec =
     enum-told
     slice-aggregate-result
     returns
-    field-in-requires
     judge-requires
     holds-text-requires
     slice-aggregate-result-2
     returns-2
+    first-of-requires
+    last-of-requires
     columns-requires
     stretch-requires
     returns-3)

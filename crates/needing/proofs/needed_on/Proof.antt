@@ -1,30 +1,36 @@
-use Rattle.needing.proofs.Steps.{need-none, need-first, need-second}
+-- `needing::needed_on` meets its contract.
+use mathlib.Core.Path.{sym, _∙_}
 use borrow.Author.Tests.{not-true, not-false}
-use denote.Ref.{now}
-use mathlib.Core.Path.{_≡_, refl, sym, ap, _∙_}
-use native.Mathlib.Omega.{arith}
+use Rattle.needing.proofs.Steps.{need-none, need-first, need-second}
 use borrow.Author.Needs.{needs}
 use Rattle.needing.proofs.needed_on.Statement.{statement}
 use Rattle.needing.proofs.needed_on.Tie as tie
-use Rattle.needing.proofs.needed_on.Reads as reads
-use Rattle.needing.proofs.needed_on.Lts as lts
-use Rattle.needing.proofs.any_second.Reads as any-second-reads
 
--- src/lib.rt:199:9
+is-needed-requires : tie.Need-is-needed-requires
+is-needed-requires c κs = search needs
+
 returns : tie.Need-returns
-returns c = sym (need-none _ (now (c .before .before .before .args .card)) (c .before .before .before .args .f) (not-true (c .before .before .before .args .f .needed) (c .if1 .taken)))
+returns c = sym (need-none _ _ _ (sym (c .before .is-needed .ensures) ∙ not-true _ (c .if1 .taken)))
 
--- src/lib.rt:202:9
+is-second-requires : tie.Need-is-second-requires
+is-second-requires c κs = search needs
+
 returns-2 : tie.Need-returns-2
-returns-2 c = sym (need-first _ (now (c .before .before .before .before .before .args .card)) (c .before .before .before .before .before .args .f) (not-false (c .before .before .before .before .before .args .f .needed) (c .before .before .if1 .left)) (not-true (c .before .before .before .before .before .args .f .second) (c .if2 .taken)))
+returns-2 c = sym (need-first _ _ _ (sym (c .before .before .before .is-needed .ensures) ∙ not-false _ (c .before .before .if1 .left)) (sym (c .before .is-second .ensures) ∙ not-true _ (c .if2 .taken)))
 
--- src/lib.rt:204:5
 any-second-requires : tie.Need-any-second-requires
 any-second-requires c κs = search needs
 
--- src/lib.rt:194:1
 returns-3 : tie.Need-returns-3
-returns-3 c = c .any-second .ensures ∙ sym (need-second _ (now (c .before .before .before .before .before .before .args .card)) (c .before .before .before .before .before .before .args .f) (not-false (c .before .before .before .before .before .before .args .f .needed) (c .before .before .before .if1 .left)) (not-false (c .before .before .before .before .before .before .args .f .second) (c .before .if2 .left)))
+returns-3 c = c .any-second .ensures ∙ sym (need-second _ _ _ (sym (c .before .before .before .before .is-needed .ensures) ∙ not-false _ (c .before .before .before .if1 .left)) (sym (c .before .before .is-second .ensures) ∙ not-false _ (c .before .if2 .left)))
 
 pub needed-on-spec : {M : Type 1} → statement M
-needed-on-spec = tie.close (tie.spec returns returns-2 any-second-requires returns-3)
+needed-on-spec =
+    tie.close
+    (tie.spec
+    is-needed-requires
+    returns
+    is-second-requires
+    returns-2
+    any-second-requires
+    returns-3)

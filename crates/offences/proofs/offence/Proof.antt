@@ -42,21 +42,18 @@ returns c =
     let a = c .before .before .before .before .before .before .args in
     sym (offence-other _ (now (a .card)) (unpack (a .row)) _ _ _ _ (c .before .before .before .before .first-of .ensures) (c .before .before .before .last-of .ensures) (c .before .offence-in .ensures) (c .if1 .taken))
 
-field-in-requires : tie.Need-field-in-requires
-field-in-requires c κs = search needs
-
 needed-on-requires : tie.Need-needed-on-requires
 needed-on-requires c κs = search needs
 
 returns-2 : tie.Need-returns-2
 returns-2 c =
-    let a = c .before .before .before .before .before .before .before .before .before .args in
-    sym (offence-missing _ (now (a .card)) (unpack (a .row)) _ _ _ _ (c .before .before .before .before .before .before .before .first-of .ensures) (c .before .before .before .before .before .before .last-of .ensures) (c .before .before .before .before .offence-in .ensures) (c .before .before .before .if1 .left) _ (c .before .before .field-in .ensures) _ (c .before .needed-on .ensures) (c .if2 .taken))
+    let a = c .before .before .before .before .before .before .before .before .args in
+    sym (offence-missing _ (now (a .card)) (unpack (a .row)) _ _ _ _ (c .before .before .before .before .before .before .first-of .ensures) (c .before .before .before .before .before .last-of .ensures) (c .before .before .before .offence-in .ensures) (c .before .before .if1 .left) _ (c .before .needed-on .ensures) (c .if2 .taken))
 
 returns-3 : tie.Need-returns-3
 returns-3 c =
-    let a = c .before .before .before .before .before .before .before .before .before .args in
-    sym (offence-none _ (now (a .card)) (unpack (a .row)) _ _ _ _ (c .before .before .before .before .before .before .before .first-of .ensures) (c .before .before .before .before .before .before .last-of .ensures) (c .before .before .before .before .offence-in .ensures) (c .before .before .before .if1 .left) _ (c .before .before .field-in .ensures) _ (c .before .needed-on .ensures) (c .if2 .left))
+    let a = c .before .before .before .before .before .before .before .before .args in
+    sym (offence-none _ (now (a .card)) (unpack (a .row)) _ _ _ _ (c .before .before .before .before .before .before .first-of .ensures) (c .before .before .before .before .before .last-of .ensures) (c .before .before .before .offence-in .ensures) (c .before .before .if1 .left) _ (c .before .needed-on .ensures) (c .if2 .left))
 
 pub offence-spec : {M : Type 1} → statement M
 offence-spec =
@@ -70,7 +67,6 @@ offence-spec =
     part-offence-in-end
     offence-in-requires
     returns
-    field-in-requires
     needed-on-requires
     returns-2
     returns-3)

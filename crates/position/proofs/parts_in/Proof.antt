@@ -1,80 +1,84 @@
--- `position::parts_in` meets its contract.
-use Rattle.position.specs.Angles.{partsOf}
+-- `position::parts_in` meets its contract: each part is what its columns' bytes hold.
+use denote.Ref.{now}
+use native.Mathlib.Omega.{arith}
+use mathlib.Core.Path.{sym, ap, _∙_}
+use mathlib.Core.Bool.{false}
+use Rattle.number.specs.Reading.{figuresOf}
+use Rattle.position.specs.Angles.{paddedOf, partsOf}
+use Rattle.position.proofs.Columns.{two-of, three-of}
 use Rattle.position.proofs.Reading.{same-parts}
 use borrow.Author.Needs.{needs}
 use Rattle.position.proofs.parts_in.Statement.{statement}
 use Rattle.position.proofs.parts_in.Tie as tie
 
-sub-padded : tie.Need-sub-padded
-sub-padded c = search needs
+shared-slice-read-three-columns : tie.Need-shared-slice-read-three-columns
+shared-slice-read-three-columns c = search needs
 
-part-padded-start : tie.Need-part-padded-start
-part-padded-start c = search needs
+shared-slice-read-three-columns-2 : tie.Need-shared-slice-read-three-columns-2
+shared-slice-read-three-columns-2 c = search needs
 
-part-padded-end : tie.Need-part-padded-end
-part-padded-end c = search needs
+shared-slice-read-three-columns-3 : tie.Need-shared-slice-read-three-columns-3
+shared-slice-read-three-columns-3 c = search needs
 
-padded-requires : tie.Need-padded-requires
-padded-requires c κs = search needs
+three-columns-requires : tie.Need-three-columns-requires
+three-columns-requires c κs = search needs
 
-sub-padded-2 : tie.Need-sub-padded-2
-sub-padded-2 c = search needs
+shared-slice-read-two-columns : tie.Need-shared-slice-read-two-columns
+shared-slice-read-two-columns c = search needs
 
-part-padded-start-2 : tie.Need-part-padded-start-2
-part-padded-start-2 c = search needs
+shared-slice-read-two-columns-2 : tie.Need-shared-slice-read-two-columns-2
+shared-slice-read-two-columns-2 c = search needs
 
-part-padded-end-2 : tie.Need-part-padded-end-2
-part-padded-end-2 c = search needs
+two-columns-requires : tie.Need-two-columns-requires
+two-columns-requires c κs = search needs
 
-padded-requires-2 : tie.Need-padded-requires-2
-padded-requires-2 c κs = search needs
+shared-slice-read-two-columns-3 : tie.Need-shared-slice-read-two-columns-3
+shared-slice-read-two-columns-3 c = search needs
 
-sub-padded-3 : tie.Need-sub-padded-3
-sub-padded-3 c = search needs
+shared-slice-read-two-columns-4 : tie.Need-shared-slice-read-two-columns-4
+shared-slice-read-two-columns-4 c = search needs
 
-part-padded-start-3 : tie.Need-part-padded-start-3
-part-padded-start-3 c = search needs
+two-columns-requires-2 : tie.Need-two-columns-requires-2
+two-columns-requires-2 c κs = search needs
 
-part-padded-end-3 : tie.Need-part-padded-end-3
-part-padded-end-3 c = search needs
+shared-slice-read-three-digits : tie.Need-shared-slice-read-three-digits
+shared-slice-read-three-digits c = search needs
 
-padded-requires-3 : tie.Need-padded-requires-3
-padded-requires-3 c κs = search needs
+shared-slice-read-three-digits-2 : tie.Need-shared-slice-read-three-digits-2
+shared-slice-read-three-digits-2 c = search needs
 
-sub-figures-in : tie.Need-sub-figures-in
-sub-figures-in c = search needs
+shared-slice-read-three-digits-3 : tie.Need-shared-slice-read-three-digits-3
+shared-slice-read-three-digits-3 c = search needs
 
-part-figures-in-start : tie.Need-part-figures-in-start
-part-figures-in-start c = search needs
-
-part-figures-in-end : tie.Need-part-figures-in-end
-part-figures-in-end c = search needs
-
-figures-in-requires : tie.Need-figures-in-requires
-figures-in-requires c κs = search needs
+three-digits-requires : tie.Need-three-digits-requires
+three-digits-requires c κs = search needs
 
 returns : tie.Need-returns
 unfolding partsOf
-returns c = same-parts (c .before .before .before .before .before .before .padded .ensures) (c .before .before .before .before .padded2 .ensures) (c .before .before .padded3 .ensures) (c .figures-in .ensures)
+returns c =
+    let s = now (c .before .before .before .before .before .before .before .before .before .before .before .before .before .before .before .args .s) in
+    same-parts
+    (c .before .before .before .before .before .before .before .before .before .before .three-columns .ensures ∙ ap paddedOf (sym (three-of s 0 (omega (arith, c .before .before .before .before .before .before .before .before .before .before .before .before .before .before .before .pre)))))
+    (c .before .before .before .before .before .before .before .two-columns .ensures ∙ ap paddedOf (sym (two-of s 3 (omega (arith, c .before .before .before .before .before .before .before .before .before .before .before .before .before .before .before .pre)))))
+    (c .before .before .before .before .two-columns2 .ensures ∙ ap paddedOf (sym (two-of s 5 (omega (arith, c .before .before .before .before .before .before .before .before .before .before .before .before .before .before .before .pre)))))
+    (c .three-digits .ensures ∙ ap (figuresOf false) (sym (three-of s 8 (omega (arith, c .before .before .before .before .before .before .before .before .before .before .before .before .before .before .before .pre)))))
 
 pub parts-in-spec : {M : Type 1} → statement M
 parts-in-spec =
     tie.close
     (tie.spec
-    sub-padded
-    part-padded-start
-    part-padded-end
-    padded-requires
-    sub-padded-2
-    part-padded-start-2
-    part-padded-end-2
-    padded-requires-2
-    sub-padded-3
-    part-padded-start-3
-    part-padded-end-3
-    padded-requires-3
-    sub-figures-in
-    part-figures-in-start
-    part-figures-in-end
-    figures-in-requires
+    shared-slice-read-three-columns
+    shared-slice-read-three-columns-2
+    shared-slice-read-three-columns-3
+    three-columns-requires
+    shared-slice-read-two-columns
+    shared-slice-read-two-columns-2
+    two-columns-requires
+    shared-slice-read-two-columns-3
+    shared-slice-read-two-columns-4
+    two-columns-requires-2
+    shared-slice-read-three-digits
+    shared-slice-read-three-digits-2
+    shared-slice-read-three-digits-3
+    three-digits-requires
     returns)
