@@ -77,12 +77,24 @@ tested k form.Angles s f = refl
 tested k form.Grid s f = refl
 tested k form.Unknown s f = refl
 
-module _ (k : ℕ) (form : Form) (s : List ℕ) (f : Field) (a b : Bool) (unknown : a ≡ isUnknown form) (coordinate : b ≡ isCoordinate (f .kind)) where
-  pub unread : (a && b) ≡ true → fieldOffence k form s f ≡ 0
-  unread h = tested k form s f ∙ rw (← unknown, ← coordinate, h)
+module _ (k : ℕ) (form : Form) (s : List ℕ) (f : Field) (grid : Bool) (is : grid ≡ isGrid form) (n : ℕ) (found : n ≡ numberOf (judgedOf k s f grid)) where
+  -- what was found counts, unless it is passed over
+  passed : fieldOffence k form s f ≡ cond (isUnknown form && isCoordinate (f .kind)) 0 n
+  passed = tested k form s f ∙ rw (← is, ← found)
 
-  pub judged-field : (a && b) ≡ false → (grid : Bool) → grid ≡ isGrid form → (n : ℕ) → n ≡ numberOf (judgedOf k s f grid) → n ≡ fieldOffence k form s f
-  judged-field h grid g n q = q ∙ sym (tested k form s f ∙ rw (← unknown, ← coordinate, h, ← g))
+  pub no-offence : n ≡ 0 → fieldOffence k form s f ≡ 0
+  no-offence h = passed ∙ rw h (either (isUnknown form && isCoordinate (f .kind)))
+    where
+      either : (b : Bool) → _≡_ {A = ℕ} (cond b 0 0) 0
+      either true = refl
+      either false = refl
+
+  module _ (a b : Bool) (unknown : a ≡ isUnknown form) (coordinate : b ≡ isCoordinate (f .kind)) where
+    pub unread : (a && b) ≡ true → fieldOffence k form s f ≡ 0
+    unread h = passed ∙ rw (← unknown, ← coordinate, h)
+
+    pub counted : (a && b) ≡ false → fieldOffence k form s f ≡ n
+    counted h = passed ∙ rw (← unknown, ← coordinate, h)
 
 -- the columns up to a field, and the field
 module _ (k : ℕ) (form : Form) (s : List ℕ) (f : Field) (c q first : ℕ) (begins : first ≡ f .first) (is : q ≡ firstFrom (filledAt s) (first - c) c) where

@@ -65,16 +65,21 @@ fn is_unknown(form: Form) -> bool
     }
 }
 
-// The number of a field's offence on a card, 0 for none; none of a coordinate whose form is not known.
+// The number of a field's offence on a card, 0 for none; none of a coordinate whose form is not known, which is asked only where
+// there is an offence.
 fn field_offence(card: &[u8], layout: usize, row: u64, form: Form) -> usize
     requires { ⌜ (length (now card) ≡ 80) × (1 ≤ unpack row .first) × (unpack row .first ≤ unpack row .last) × (unpack row .last ≤ 80)
         × T (wideAs (unpack row .kind) (width (unpack row))) ⌝ }
     ensures { λ r. ⌜ r ≡ fieldOffence layout form (now (card .entry)) (unpack row) ⌝ }
 {
+    let number = offences::offence(card, layout, row, is_grid(form));
+    if number == 0 {
+        return 0;
+    }
     if is_unknown(form) & is_coordinate(fields::kind_of(row)) {
         return 0;
     }
-    offences::offence(card, layout, row, is_grid(form))
+    number
 }
 
 // The first column that is not blank, from one up to but not with another; that other where there is none.

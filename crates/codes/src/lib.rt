@@ -32,16 +32,14 @@ pub enum Code {
     Unknown,
 }
 
+// Whether a byte is one that a pattern's byte stands for; without a branch, as most codes are compared with several patterns.
 fn byte_fits(pattern: u8, byte: u8) -> bool
     ensures { λ r. ⌜ r ≡ byteFits pattern byte ⌝ }
 {
-    if pattern == b'@' {
-        return (b'1' <= byte) & (byte <= b'9');
-    }
-    if pattern == b'#' {
-        return (b'0' <= byte) & (byte <= b'9');
-    }
-    pattern == byte
+    let some = (pattern == b'@') & ((b'1' <= byte) & (byte <= b'9'));
+    let any = (pattern == b'#') & ((b'0' <= byte) & (byte <= b'9'));
+    let itself = ((pattern != b'@') & (pattern != b'#')) & (pattern == byte);
+    (some | any) | itself
 }
 
 // A code's first three bytes as one number.
@@ -51,17 +49,12 @@ fn head_of(first: u8, second: u8, third: u8) -> u64
     (first as u64 * 256 + second as u64) * 256 + third as u64
 }
 
-// Whether a code fits a pattern: first its first three bytes, which no pattern leaves open, then the last.
+// Whether a code fits a pattern: its first three bytes, which no pattern leaves open, and the last two.
 fn fits_word(word: u64, head: u64, fourth: u8, fifth: u8) -> bool
     ensures { λ r. ⌜ r ≡ fitsWord word head fourth fifth ⌝ }
 {
-    if word / 65536 != head {
-        return false;
-    }
-    if !byte_fits((word % 256) as u8, fifth) {
-        return false;
-    }
-    byte_fits((word / 256 % 256) as u8, fourth)
+    (word / 65536 == head)
+        & (byte_fits((word % 256) as u8, fifth) & byte_fits((word / 256 % 256) as u8, fourth))
 }
 
 // A layout before which none reads a code with a head: the comments, or the first that begins with no lower head. Layouts

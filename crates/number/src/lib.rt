@@ -40,7 +40,7 @@ fn counted(count: usize, units: u64, places: usize) -> Figures
 }
 
 // Reads an unsigned number that fills t; pointed says whether a point may stand in it.
-pub fn figures_in(t: &[u8], pointed: bool) -> Figures
+fn figures_in(t: &[u8], pointed: bool) -> Figures
     ensures { λ r. ⌜ r ≡ figuresOf pointed (now (t .entry)) ⌝ }
 {
     let whole = digits::read_run(t, 0);

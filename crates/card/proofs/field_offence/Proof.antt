@@ -3,10 +3,21 @@ use denote.Ref.{now}
 use mathlib.Core.Path.{sym, ap, _∙_}
 use Rattle.layout.specs.Packed.{unpack}
 use Rattle.card.specs.Judging.{isCoordinate}
-use Rattle.card.proofs.Ways.{unread, judged-field}
+use Rattle.card.proofs.Ways.{no-offence, unread, counted}
 use borrow.Author.Needs.{needs}
 use Rattle.card.proofs.field_offence.Statement.{statement}
 use Rattle.card.proofs.field_offence.Tie as tie
+
+is-grid-requires : tie.Need-is-grid-requires
+is-grid-requires c κs = search needs
+
+offence-requires : tie.Need-offence-requires
+offence-requires c κs = search needs
+
+returns : tie.Need-returns
+returns c =
+    let a = c .before .before .before .before .args in
+    sym (no-offence _ (a .form) (now (a .card)) (unpack (a .row)) _ (c .before .before .is-grid .ensures) _ (c .before .offence .ensures) (c .if1 .taken))
 
 is-unknown-requires : tie.Need-is-unknown-requires
 is-unknown-requires c κs = search needs
@@ -17,30 +28,25 @@ kind-of-requires c κs = search needs
 is-coordinate-requires : tie.Need-is-coordinate-requires
 is-coordinate-requires c κs = search needs
 
-returns : tie.Need-returns
-returns c =
-    let a = c .before .before .before .before .before .args in
-    sym (unread _ (a .form) (now (a .card)) (unpack (a .row)) _ _ (c .before .before .before .is-unknown .ensures) (c .before .is-coordinate .ensures ∙ ap isCoordinate (c .before .before .kind-of .ensures)) (c .if1 .taken))
-
-is-grid-requires : tie.Need-is-grid-requires
-is-grid-requires c κs = search needs
-
-offence-requires : tie.Need-offence-requires
-offence-requires c κs = search needs
-
 returns-2 : tie.Need-returns-2
 returns-2 c =
-    let a = c .before .before .before .before .before .before .before .args in
-    judged-field _ (a .form) (now (a .card)) (unpack (a .row)) _ _ (c .before .before .before .before .before .is-unknown .ensures) (c .before .before .before .is-coordinate .ensures ∙ ap isCoordinate (c .before .before .before .before .kind-of .ensures)) (c .before .before .if1 .left) _ (c .before .is-grid .ensures) _ (c .offence .ensures)
+    let a = c .before .before .before .before .before .before .before .before .args in
+    sym (unread _ (a .form) (now (a .card)) (unpack (a .row)) _ (c .before .before .before .before .before .before .is-grid .ensures) _ (c .before .before .before .before .before .offence .ensures) _ _ (c .before .before .before .is-unknown .ensures) (c .before .is-coordinate .ensures ∙ ap isCoordinate (c .before .before .kind-of .ensures)) (c .if2 .taken))
+
+returns-3 : tie.Need-returns-3
+returns-3 c =
+    let a = c .before .before .before .before .before .before .before .before .args in
+    sym (counted _ (a .form) (now (a .card)) (unpack (a .row)) _ (c .before .before .before .before .before .before .is-grid .ensures) _ (c .before .before .before .before .before .offence .ensures) _ _ (c .before .before .before .is-unknown .ensures) (c .before .is-coordinate .ensures ∙ ap isCoordinate (c .before .before .kind-of .ensures)) (c .if2 .left))
 
 pub field-offence-spec : {M : Type 1} → statement M
 field-offence-spec =
     tie.close
     (tie.spec
+    is-grid-requires
+    offence-requires
+    returns
     is-unknown-requires
     kind-of-requires
     is-coordinate-requires
-    returns
-    is-grid-requires
-    offence-requires
-    returns-2)
+    returns-2
+    returns-3)
