@@ -4,20 +4,22 @@ use native.Mathlib.Omega.{arith}
 use native.Mathlib.Nat.{pow-le-pow-right}
 use mathlib.Core.Path.{_≡_, sym, ap, _∙_}
 use mathlib.Core.List.{List, [], _∷_, _++_, append-nil}
-use mathlib.Core.Bool.{Bool, true, false, cond}
+use mathlib.Core.Bool.{Bool, true, false, cond, _&&_}
 use lib.ListN.{length, getD, take, drop, length-take, length-drop}
 use lib.Dec.{eqb, lit<}
 use lib.IntN.{ℤ}
-use borrow.Author.Tests.{eq-eqb, ne-eqb, lt-ltb, le-ltb, le-leb, lt-leb}
+use borrow.Author.Tests.{eq-eqb, ne-eqb, eqb-true, lt-ltb, le-ltb, le-leb, lt-leb}
 use Rattle.digits.specs.Figures.{blanks, unpadded, leading, behind, valueFrom, capped}
 use Rattle.digits.proofs.Numbers.{value-below}
 use Rattle.digits.proofs.Walk.{leading-take}
+use Rattle.digits.proofs.Bools.{and-left, and-right}
+use Rattle.digits.proofs.Blank.{blank-at}
 use Rattle.number.specs.Reading.{pointOf, figuresOf}
 use Rattle.signs.specs.Signs.{signedOf}
 use Rattle.number.specs.declared.Figures.{Figures}
 use Rattle.number.specs.declared.Figures.the-variants.{Units, Not}
-use Rattle.axes.specs.Axes.{boundOf, letterOf}
-use Rattle.position.specs.Angles.{part, paddedOf, unitsOf, partsOf, isSpelled, arcOf, angledOf, angleOf}
+use Rattle.axes.specs.Axes.{boundOf, letterOf, isLetter}
+use Rattle.position.specs.Angles.{part, paddedOf, isNumber, unitsOf, partsOf, isSpelled, arcOf, angledOf, angleOf}
 use Rattle.axes.specs.declared.Axis.{Axis}
 use Rattle.position.specs.declared.Parts.{Parts}
 use Rattle.position.specs.declared.Angled.the-variants.{Absent, Held, Malformed, OutOfRange}
@@ -74,24 +76,25 @@ module _ (a : Axis) (minus : Bool) (p : Parts) where
       arc-within h z q =
           rw (← e, ← f, lt-ltb (unitsOf (p .minutes)) 60 within, lt-ltb (unitsOf (p .seconds)) 60 too, le-leb n b h, q)
 
-module _ (a : Axis) (s : List ℕ) (at : ℕ) (e : at ≡ blanks s) where
-  pub angle-absent : at ≡ length s → Absent ≡ angleOf a s
+module _ (a : Axis) (s : List ℕ) where
+  pub angle-width : (length s ≡ 12 → ⊥) → cond (eqb (blanks s) (length s)) Absent Malformed ≡ angleOf a s
   unfolding angleOf
-  angle-absent h = rw (eq-eqb (blanks s) (length s) (sym e ∙ h))
+  angle-width h = rw (ne-eqb (length s) 12 h)
 
-  module _ (present : at ≡ length s → ⊥) where
-    some-present : eqb (blanks s) (length s) ≡ false
-    some-present = ne-eqb (blanks s) (length s) (λ q. present (e ∙ q))
-
-    pub angle-width : (length s ≡ 12 → ⊥) → Malformed ≡ angleOf a s
+  module _ (wide : length s ≡ 12) (p : Parts) (q : p ≡ partsOf s) (b : Bool) (r : b ≡ isSpelled a p (getD s 7 0) (getD s 11 0)) where
+    pub angle-other : b ≡ false → cond (eqb (blanks s) (length s)) Absent Malformed ≡ angleOf a s
     unfolding angleOf
-    angle-width h = rw (some-present, ne-eqb (length s) 12 h)
+    angle-other h = rw (eq-eqb (length s) 12 wide, ← q, ← r, h)
 
-    module _ (wide : length s ≡ 12) (p : Parts) (q : p ≡ partsOf s) (b : Bool) (r : b ≡ isSpelled a p (getD s 7 0) (getD s 11 0)) where
-      pub angle-other : b ≡ false → Malformed ≡ angleOf a s
-      unfolding angleOf
-      angle-other h = rw (some-present, eq-eqb (length s) 12 wide, ← q, ← r, h)
+    -- the point is no blank
+    present : b ≡ true → eqb (blanks s) (length s) ≡ false
+    unfolding isSpelled
+    present h =
+        let n = (isNumber (p .degrees) && isNumber (p .minutes)) && (isNumber (p .seconds) && isNumber (p .thousandths)) in
+        let t = and-right n (eqb (getD s 7 0) 46 && isLetter a (getD s 11 0)) (sym r ∙ h) in
+        let point : getD s 7 0 ≡ 46 = eqb-true (getD s 7 0) 46 (and-left (eqb (getD s 7 0) 46) (isLetter a (getD s 11 0)) t) in
+        ne-eqb (blanks s) (length s) (λ e. let x : 46 ≡ 32 = sym point ∙ blank-at s 7 e (omega arith) in omega arith)
 
-      pub angle-parts : b ≡ true → (l : ℕ) → l ≡ letterOf a true → angledOf a (eqb (getD s 11 0) l) p ≡ angleOf a s
-      unfolding angleOf
-      angle-parts h l k = rw (some-present, eq-eqb (length s) 12 wide, ← q, ← r, h, ← k)
+    pub angle-parts : b ≡ true → (l : ℕ) → l ≡ letterOf a true → angledOf a (eqb (getD s 11 0) l) p ≡ angleOf a s
+    unfolding angleOf
+    angle-parts h l k = rw (present h, eq-eqb (length s) 12 wide, ← q, ← r, h, ← k)

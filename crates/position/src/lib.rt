@@ -2,10 +2,11 @@
 use axes::Axis;
 ghost use mathlib.Core.Path.{_≡_};
 ghost use mathlib.Core.List.{[], _∷_};
-ghost use mathlib.Core.Bool.{false};
+ghost use mathlib.Core.Bool.{false, cond};
 ghost use Prim.Native.Nat.{_<_, _≤_};
 ghost use lib.ListN.{length};
-ghost use Rattle.digits.specs.Figures.{isDigit};
+ghost use lib.Dec.{eqb};
+ghost use Rattle.digits.specs.Figures.{isDigit, blanks};
 ghost use Rattle.digits.specs.Columns.{answerOf, enteredIn};
 ghost use Rattle.number.specs.Reading.{figuresOf};
 ghost use Rattle.position.specs.Angles.{paddedOf, isNumber, unitsOf, partsOf, isSpelled, angledOf, angleOf, figuresIn, angleIn};
@@ -157,20 +158,27 @@ fn judged(axis: Axis, minus: bool, p: Parts) -> Angled
     Angled::Held(signs::signed(minus, n))
 }
 
-// Reads the angle that fills s.
-pub fn read_angle(s: &[u8], axis: Axis) -> Angled
-    ensures { λ r. ⌜ r ≡ angleOf axis (now (s .entry)) ⌝ }
+// What columns hold that are no angle.
+fn unspelled(s: &[u8]) -> Angled
+    ensures { λ r. ⌜ r ≡ cond (eqb (blanks (now (s .entry))) (length (now (s .entry)))) Angled.Absent Angled.Malformed ⌝ }
 {
     if digits::padding(s) == s.len() {
         return Angled::Absent;
     }
+    Angled::Malformed
+}
+
+// Reads the angle that fills s; whether it is blank is asked only where there is none.
+pub fn read_angle(s: &[u8], axis: Axis) -> Angled
+    ensures { λ r. ⌜ r ≡ angleOf axis (now (s .entry)) ⌝ }
+{
     if s.len() != WIDTH {
-        return Angled::Malformed;
+        return unspelled(s);
     }
     let p = parts_in(s);
     let last = s[LAST];
     if !is_spelled(axis, p, s[7], last) {
-        return Angled::Malformed;
+        return unspelled(s);
     }
     judged(axis, last == axes::letter(axis, true), p)
 }
