@@ -5,10 +5,10 @@ use native.Mathlib.Decide.{ℕ-discrete}
 use mathlib.Core.Path.{_≡_, refl, sym, ap, _∙_}
 use mathlib.Core.List.{List, [], _∷_}
 use mathlib.Core.Bool.{Bool, true, false, cond, _&&_, not, true≢false}
-use lib.ListN.{length, getD, take, drop, length-drop, List·getD-eq-default}
+use lib.ListN.{length, getD, take, drop, length-drop}
 use lib.Seq.{length-take-le, getD-take, getD-drop, ext-getD}
-use lib.Dec.{eqb, leb, ltb}
-use borrow.Author.Tests.{eq-eqb, ne-eqb, le-leb, lt-leb, lt-ltb, le-ltb, ltb-false}
+use lib.Dec.{eqb, ltb}
+use borrow.Author.Tests.{eq-eqb, ne-eqb, lt-ltb, le-ltb, ltb-false}
 use Rattle.lists.specs.Count.{firstFrom}
 use Rattle.lists.specs.Parts.{alike}
 use Rattle.lists.proofs.Finding.{stops, goes, over}
@@ -21,7 +21,6 @@ use Rattle.printable.specs.Bytes.{firstBad}
 use Rattle.judging.specs.Fields.{judgedOf, numberOf}
 use Rattle.card.specs.declared.Form.{Form}
 use Rattle.card.specs.declared.Form.the-variants as form
-use Rattle.card.specs.declared.Verdict.{Verdict}
 use Rattle.card.specs.declared.Verdict.the-variants.{Fine, Offence}
 use Rattle.card.specs.Judging.{isCoordinate, isGrid, isUnknown, fieldOffence, filledAt, nextVerdict, labelStands, labelOffence, offenceAt, columnOffence, verdictFrom, codeVerdict, verdictOf}
 use Rattle.card.proofs.Leftmost.{decides, skips, agree}

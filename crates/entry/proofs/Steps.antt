@@ -1,14 +1,14 @@
 -- What each way through an entry finds.
-use Prim.Native.Nat.{ℕ, zero, suc, _+_, _-_, _≤_, _<_}
+use Prim.Native.Nat.{ℕ, suc, _+_, _-_, _≤_, _<_}
 use native.Mathlib.Omega.{arith}
 use native.Mathlib.Numerals.{add-one}
-use mathlib.Core.Path.{_≡_, refl, sym, ap, ap₂, subst, _∙_}
-use mathlib.Core.List.{List, [], _∷_, _++_}
+use mathlib.Core.Path.{_≡_, refl, sym, ap, ap₂, _∙_}
+use mathlib.Core.List.{List, [], _∷_}
 use mathlib.Core.Option.{Option, none, some}
-use mathlib.Core.Bool.{Bool, true, false, cond, _&&_, _||_, not, true≢false, false≢true}
+use mathlib.Core.Bool.{Bool, true, false, _&&_, _||_, not, true≢false, false≢true}
 use lib.ListN.{length, getD, take, drop, drop-of-length-le, length-drop}
 use lib.Seq.{drop-cons, length-take-le}
-use lib.Dec.{T, eqb, leb}
+use lib.Dec.{T, eqb}
 use lib.IntN.{ℤ, pos, negsuc}
 use borrow.Author.Tests.{le-leb}
 use borrow.Rule.Slice.PartMut.{putMid, put-same}
@@ -24,7 +24,7 @@ use Rattle.spelling.specs.declared.Value.{Value}
 use Rattle.spelling.specs.declared.Value.the-variants.{Absent, Whole, Decimal, Angle, Date, Text}
 use Rattle.spelling.specs.declared.Spelling.{Spelling}
 use Rattle.spelling.specs.declared.Spelling.the-variants as spelled
-use Rattle.writing.specs.Writing.{blanked, noValueIn, wholeIn, unitsIn, dayIn, arcIn, gridEntryIn, entryOf, textEntryOf}
+use Rattle.writing.specs.Writing.{noValueIn, wholeIn, unitsIn, dayIn, arcIn, gridEntryIn, entryOf, textEntryOf}
 use Rattle.layout.specs.declared.Kind.{Kind}
 use Rattle.layout.specs.declared.Kind.the-variants as kind
 use Rattle.layout.specs.declared.Range.{Range}
@@ -33,20 +33,19 @@ use Rattle.layout.proofs.Columns.{ranged}
 use Rattle.layout.specs.declared.Field.{Field}
 use Rattle.layout.specs.declared.Found.the-variants as found
 use Rattle.layout.specs.Layouts.{fieldsOf, fieldOf, noField}
-use Rattle.ranges.specs.Ranges.{inRange, allows}
+use Rattle.ranges.specs.Ranges.{inRange}
 use Rattle.layout.specs.Layouts.{isAny}
 use Rattle.layout.proofs.Numbers.{found-ranged}
 use Rattle.seeking.proofs.Steps.{found-there}
 use Rattle.field.proofs.Steps.{found-fits}
 use Rattle.seeking.specs.declared.Refusal.{Refusal}
-use Rattle.seeking.specs.declared.Sought.{Sought}
 use Rattle.seeking.specs.declared.Sought.the-variants as sought
 use Rattle.seeking.specs.Card.{refusal, soughtOf}
 use Rattle.judging.specs.Fields.{spellingOf}
-use Rattle.needing.specs.Needs.{secondAt, secondBy, columnsOf}
+use Rattle.needing.specs.Needs.{secondAt, secondBy}
 use Rattle.entry.specs.declared.Entered.{Entered}
-use Rattle.entry.specs.declared.Entered.the-variants.{Done, Refused}
-use Rattle.entry.specs.Putting.{Putting, placed, stays, answerOf, leftBy, cameOf, width, placedIn, isAbsent, within, otherSecond, neededAfter, isOther, byEntry, valuePut, valueAt, textAt, puttingOf, puttingTextOf}
+use Rattle.entry.specs.declared.Entered.the-variants.{Refused}
+use Rattle.entry.specs.Putting.{Putting, stays, answerOf, leftBy, cameOf, width, placedIn, isAbsent, within, otherSecond, neededAfter, isOther, byEntry, valuePut, valueAt, textAt, puttingOf, puttingTextOf}
 
 -- values that are there, and values that have no range
 pub present : (v : Value) → OneOf (1 ∷ 2 ∷ 3 ∷ 4 ∷ 5 ∷ []) (tagOf the-type v) → isAbsent v ≡ false

@@ -24,8 +24,7 @@ use Rattle.date.specs.Dates.{numberOf, dateIn}
 use Rattle.axes.specs.declared.Axis.{Axis}
 use Rattle.axes.specs.declared.Axis.the-variants.{Y, X}
 use Rattle.axes.specs.Axes.{boundOf, letterOf}
-use Rattle.position.specs.Angles.{figuresIn, angleIn}
-use Rattle.grid.specs.Grid.{lettered, gridIn}
+use Rattle.plotting.specs.Plotting.{figuresIn, angleIn, lettered, gridIn}
 use Rattle.text.specs.Texts.{printable, wellFormed, textIn}
 use Rattle.spelling.specs.declared.Value.{Value}
 use Rattle.spelling.specs.declared.Value.the-variants.{Absent, Whole, Decimal, Angle, Date, Text}

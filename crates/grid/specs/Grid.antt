@@ -1,16 +1,11 @@
 -- Form 1: a decimal, and in the last column the letter N or E.
 use Prim.Native.Nat.{ℕ, _-_}
-use mathlib.Core.List.{List, [], _∷_, _++_}
+use mathlib.Core.List.{List}
 use mathlib.Core.Bool.{true, false, cond}
-use mathlib.Core.Option.{Option, none, some}
 use lib.ListN.{length, take, getD}
 use lib.Dec.{eqb}
 use Rattle.digits.specs.Figures.{blanks}
-use Rattle.digits.specs.Columns.{Entry, agreed, refused}
-use Rattle.digits.specs.declared.Written.the-variants.{NoRoom}
 use Rattle.number.specs.Reading.{numberOf}
-use Rattle.numerals.specs.Spelling.{decimalIn}
-use Rattle.number.specs.declared.Decimal.{Decimal}
 use Rattle.number.specs.declared.Number.{Number}
 use Rattle.number.specs.declared.Number.the-variants.{Absent, Held, Malformed, OutOfRange}
 use Rattle.axes.specs.Axes.{letterOf}
@@ -28,12 +23,3 @@ unfoldable pub gridOf : Axis → List ℕ → Number
 gridOf a s =
     cond (eqb (blanks s) (length s)) Absent
     (cond (eqb (getD s (length s - 1) 0) (letterOf a false)) (presentOf (numberOf true (take (length s - 1) s))) Malformed)
-
--- a number for which there may be no room, and the letter
-abbrev pub lettered : ℕ → Option (List ℕ) → Entry
-lettered letter (some t) = agreed (t ++ (letter ∷ []))
-lettered letter none = refused NoRoom
-
--- a grid coordinate in w columns
-unfoldable pub gridIn : Axis → ℕ → Decimal → Entry
-gridIn a w d = cond (eqb w 0) (refused NoRoom) (lettered (letterOf a false) (decimalIn (w - 1) d))

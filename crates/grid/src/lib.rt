@@ -1,9 +1,7 @@
-// Coordinates in columns in form 1: a number, and the letter of its axis.
+// Coordinates in columns in form 1: a number, and the letter of its axis, read.
 use axes::Axis;
 ghost use mathlib.Core.Path.{_≡_};
-ghost use lib.ListN.{length};
-ghost use Rattle.digits.specs.Columns.{answerOf, enteredIn};
-ghost use Rattle.grid.specs.Grid.{presentOf, gridOf, gridIn};
+ghost use Rattle.grid.specs.Grid.{presentOf, gridOf};
 
 // A number that has to be there.
 fn present(found: number::Number) -> number::Number
@@ -29,20 +27,4 @@ pub fn read_grid(s: &[u8], axis: Axis) -> number::Number
         return number::Number::Malformed;
     }
     present(number::read_number(&s[..last], true))
-}
-
-// Writes a grid coordinate, or changes nothing where it has no room.
-pub fn write_grid(columns: &mut [u8], axis: Axis, d: number::Decimal) -> digits::Written
-    ensures answer { λ r. ⌜ r ≡ answerOf (gridIn axis (length (now (columns .entry))) d) ⌝ }
-    ensures columns { λ _. ⌜ now (columns .exit) ≡ enteredIn (gridIn axis (length (now (columns .entry))) d) (now (columns .entry)) ⌝ }
-{
-    if columns.len() == 0 {
-        return digits::Written::NoRoom;
-    }
-    let last = columns.len() - 1;
-    if !numerals::write_decimal(&mut columns[..last], d) {
-        return digits::Written::NoRoom;
-    }
-    columns[last] = axes::letter(axis, false);
-    digits::Written::Done
 }

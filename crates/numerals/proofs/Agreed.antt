@@ -1,31 +1,30 @@
 -- What was read can always be rewritten in the same width.
-use Prim.Native.Nat.{ℕ, zero, suc, _+_, _-_, _*_, _^_, _≤_, _<_, max, min}
+use Prim.Native.Nat.{ℕ, zero, suc, _+_, _-_, _*_, _^_, _≤_, _<_, max}
 use native.Mathlib.Omega.{arith}
 use native.Mathlib.Nat.{zero-add, add-zero, one-mul, lt-of-lt-of-le, mul-le-mul-right}
-use mathlib.Core.Path.{_≡_, refl, sym, ap, ap₂, subst, _∙_}
+use mathlib.Core.Path.{_≡_, refl, sym, ap, subst, _∙_}
 use mathlib.Core.List.{List, [], _∷_, _++_, append-nil}
-use mathlib.Core.Bool.{Bool, true, false, cond, _&&_, false≢true, true≢false}
+use mathlib.Core.Bool.{Bool, true, false, cond, _&&_}
 use mathlib.Core.Option.{Option, none, some}
-use lib.ListN.{length, take, drop, replicate, length-append, length-drop, take-append-drop}
-use lib.Dec.{eqb, leb, ltb}
+use lib.ListN.{length, drop, length-append, length-drop, take-append-drop}
+use lib.Dec.{eqb, ltb}
 use lib.Pow.{pow-add}
-use lib.IntN.{ℤ, pos, negsuc, negℤ, natAbs}
+use lib.IntN.{natAbs}
 use borrow.Author.Tests.{eqb-true, eqb-false, lt-ltb, ltb-true}
-use Rattle.digits.specs.Figures.{isDigit, blanks, unpadded, leading, behind, valueFrom, limit, capped}
-use Rattle.digits.specs.Digits.{digits, size, sizeUpTo}
-use Rattle.digits.specs.Columns.{rightAdjusted, orElse}
-use Rattle.digits.proofs.Bools.{and-left, and-right}
+use Rattle.digits.specs.Figures.{blanks, unpadded, leading, behind, valueFrom, limit, capped}
+use Rattle.digits.specs.Digits.{digits, size}
+use Rattle.digits.specs.Columns.{orElse}
+use Rattle.digits.proofs.Bools.{and-right}
 use Rattle.digits.proofs.Walk.{value-append, leading-take, all-leading}
 use Rattle.digits.proofs.Numbers.{value-below, size-le}
 use Rattle.number.specs.declared.Decimal.{Decimal}
 use Rattle.number.specs.declared.Figures.{Figures}
 use Rattle.number.specs.declared.Figures.the-variants.{Units, Not}
-use Rattle.number.specs.declared.Number.{Number}
-use Rattle.number.specs.declared.Number.the-variants.{Absent, Held, Malformed, OutOfRange}
+use Rattle.number.specs.declared.Number.the-variants.{Held, OutOfRange}
 use Rattle.number.specs.Reading.{allDigits, countedOf, unitsOf, pointOf, figuresOf, heldOf, signOf, numberOf}
 use Rattle.signs.specs.Signs.{signedOf}
 use Rattle.signs.specs.Signs.{isMinus}
-use Rattle.numerals.specs.Spelling.{signColumns, pointColumns, spelled, unitsIn, decimalIn}
+use Rattle.numerals.specs.Spelling.{signColumns, pointColumns, unitsIn, decimalIn}
 use Rattle.numerals.proofs.Writing.{adjusted-some, fullIn, leastIn}
 
 -- digits that were counted
@@ -239,28 +238,3 @@ sign-places (b ∷ t) d e = go (eqb b 45) (eqb b 43) e
 pub whole-places : (s : List ℕ) (d : Decimal) → numberOf false s ≡ Held d → d .places ≡ 0
 unfolding numberOf
 whole-places s d e = sign-places (unpadded s) d e
-
--- only blanks are absent
-held-present : (minus : Bool) (f : Figures) → heldOf minus f ≡ Absent → ⊥
-unfolding heldOf
-held-present minus Not e = let x : _≡_ {A = ℕ} 0 1 = cc in omega arith
-held-present minus (Units n p) e = go (ltb n limit) e
-  where
-    go : (t : Bool) → cond t (Held (record { units = signedOf minus n; places = p })) OutOfRange ≡ Absent → ⊥
-    go true h = let x : _≡_ {A = ℕ} 0 1 = cc in omega arith
-    go false h = let x : _≡_ {A = ℕ} 0 1 = cc in omega arith
-
-pub absent-blank : (point : Bool) (s : List ℕ) → numberOf point s ≡ Absent → unpadded s ≡ []
-unfolding numberOf signOf
-absent-blank point s e = go (unpadded s) e
-  where
-    test : (b : ℕ) (t : List ℕ) (x y : Bool)
-        → cond x (heldOf true (figuresOf point t)) (cond y (heldOf false (figuresOf point t)) (heldOf false (figuresOf point (b ∷ t)))) ≡ Absent
-        → b ∷ t ≡ []
-    test b t true y h = absurd (held-present true (figuresOf point t) h)
-    test b t false true h = absurd (held-present false (figuresOf point t) h)
-    test b t false false h = absurd (held-present false (figuresOf point (b ∷ t)) h)
-
-    go : (v : List ℕ) → signOf point v ≡ Absent → v ≡ []
-    go [] h = refl
-    go (b ∷ t) h = test b t (eqb b 45) (eqb b 43) h

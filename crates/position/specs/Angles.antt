@@ -1,17 +1,12 @@
 -- Form 0: an angle in twelve columns, dddmmss.sss and a letter.
-use Prim.Native.Nat.{ℕ, _+_, _*_, _-_, _/_, _%_}
-use mathlib.Core.List.{List, [], _∷_, _++_}
+use Prim.Native.Nat.{ℕ, _+_, _*_, _-_}
+use mathlib.Core.List.{List}
 use mathlib.Core.Bool.{Bool, true, false, cond, _&&_}
 use lib.ListN.{length, take, drop, getD}
 use lib.Dec.{eqb, leb, ltb}
-use lib.IntN.{ℤ, natAbs}
 use Rattle.digits.specs.Figures.{blanks, unpadded}
-use Rattle.digits.specs.Columns.{Entry, agreed, refused}
-use Rattle.digits.specs.declared.Written.the-variants.{OutOfRange as Outside, NoRoom}
 use Rattle.number.specs.Reading.{figuresOf}
 use Rattle.signs.specs.Signs.{signedOf}
-use Rattle.signs.specs.Signs.{isMinus}
-use Rattle.numerals.specs.Spelling.{plain}
 use Rattle.number.specs.declared.Figures.{Figures}
 use Rattle.number.specs.declared.Figures.the-variants.{Units, Not}
 use Rattle.axes.specs.Axes.{boundOf, letterOf, isLetter}
@@ -70,14 +65,3 @@ angleOf a s =
     (cond (eqb (length s) 12 && isSpelled a (partsOf s) (getD s 7 0) (getD s 11 0))
     (angledOf a (eqb (getD s 11 0) (letterOf a true)) (partsOf s))
     Malformed)
-
--- the number dddmmsssss of n thousandths of a second
-abbrev pub figuresIn : ℕ → ℕ
-figuresIn n = n / 3600000 * 10000000 + n / 60000 % 60 * 100000 + n % 60000
-
--- an angle in w columns: zero-padded, zero as N or E
-unfoldable pub angleIn : Axis → ℕ → ℤ → Entry
-angleIn a w z =
-    cond (leb (natAbs z) (boundOf a))
-    (cond (eqb w 12) (agreed (plain 7 3 (figuresIn (natAbs z)) ++ (letterOf a (isMinus z) ∷ []))) (refused NoRoom))
-    (refused Outside)

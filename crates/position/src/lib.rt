@@ -1,15 +1,14 @@
-// Coordinates in columns in form 0: angles in degrees, minutes and seconds.
+// Coordinates in columns in form 0: angles in degrees, minutes and seconds, read.
 use axes::Axis;
 ghost use mathlib.Core.Path.{_≡_};
 ghost use mathlib.Core.List.{[], _∷_};
 ghost use mathlib.Core.Bool.{false, cond};
-ghost use Prim.Native.Nat.{_<_, _≤_};
+ghost use Prim.Native.Nat.{_<_};
 ghost use lib.ListN.{length};
 ghost use lib.Dec.{eqb};
 ghost use Rattle.digits.specs.Figures.{isDigit, blanks};
-ghost use Rattle.digits.specs.Columns.{answerOf, enteredIn};
 ghost use Rattle.number.specs.Reading.{figuresOf};
-ghost use Rattle.position.specs.Angles.{paddedOf, isNumber, unitsOf, partsOf, isSpelled, angledOf, angleOf, figuresIn, angleIn};
+ghost use Rattle.position.specs.Angles.{paddedOf, isNumber, unitsOf, partsOf, isSpelled, angledOf, angleOf};
 
 const BLANK: u8 = 32;
 
@@ -181,29 +180,4 @@ pub fn read_angle(s: &[u8], axis: Axis) -> Angled
         return unspelled(s);
     }
     judged(axis, last == axes::letter(axis, true), p)
-}
-
-// The digits of n thousandths of a second, as one number.
-fn figures(n: u64) -> u64
-    requires { ⌜ n ≤ 648000000 ⌝ }
-    ensures { λ r. ⌜ r ≡ figuresIn n ⌝ }
-{
-    n / 3600000 * 10000000 + n / 60000 % 60 * 100000 + n % 60000
-}
-
-// Writes an angle, or changes nothing where it goes too far or the columns are not twelve.
-pub fn write_angle(columns: &mut [u8], axis: Axis, angle: i64) -> digits::Written
-    ensures answer { λ r. ⌜ r ≡ answerOf (angleIn axis (length (now (columns .entry))) angle) ⌝ }
-    ensures columns { λ _. ⌜ now (columns .exit) ≡ enteredIn (angleIn axis (length (now (columns .entry))) angle) (now (columns .entry)) ⌝ }
-{
-    let n = signs::magnitude(angle);
-    if axes::bound(axis) < n {
-        return digits::Written::OutOfRange;
-    }
-    if columns.len() != WIDTH {
-        return digits::Written::NoRoom;
-    }
-    numerals::write_plain(&mut columns[..LAST], figures(n), 3);
-    columns[LAST] = axes::letter(axis, signs::below_zero(angle));
-    digits::Written::Done
 }

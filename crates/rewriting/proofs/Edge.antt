@@ -5,7 +5,6 @@ use Prim.Native.String.{String, [] as ε, _∷_ as _▸_}
 use mathlib.Core.Path.{_≡_, refl}
 use mathlib.Core.List.{List, [], _∷_, map}
 use lib.IntN.{ℤ, pos, negsuc}
-use Rattle.digits.specs.declared.Written.{Written}
 use Rattle.digits.specs.declared.Written.the-variants.{Malformed as Odd, OutOfRange as Outside}
 use Rattle.digits.specs.Columns.{Entry, agreed, refused}
 use Rattle.digits.specs.Figures.{blanks, unpadded, leading, behind, valueFrom}
@@ -17,7 +16,8 @@ use Rattle.numerals.specs.Spelling.{sign, plain, spelled, unitsIn as unitsAt, d
 use Rattle.date.specs.Calendar.{isLeap, isShort, daysIn, isDate}
 use Rattle.date.specs.Dates.{datedOf, dateOf, dateIn}
 use Rattle.axes.specs.Axes.{boundOf, letterOf}
-use Rattle.position.specs.Angles.{paddedOf, partsOf, isSpelled, angledOf, angleOf, angleIn}
+use Rattle.position.specs.Angles.{paddedOf, partsOf, isSpelled, angledOf, angleOf}
+use Rattle.plotting.specs.Plotting.{angleIn}
 use Rattle.spelling.specs.declared.Value.{Value}
 use Rattle.spelling.specs.declared.Value.the-variants as value
 use Rattle.spelling.specs.declared.Reading.{Reading}

@@ -16,9 +16,8 @@ use Rattle.date.specs.Calendar.{isDate}
 use Rattle.date.specs.Dates.{numberOf, dateIn}
 use Rattle.axes.specs.declared.Axis.{Axis}
 use Rattle.axes.specs.declared.Axis.the-variants.{Y, X}
-use Rattle.position.specs.Angles.{figuresIn, angleIn}
+use Rattle.plotting.specs.Plotting.{figuresIn, angleIn, lettered, gridIn}
 use Rattle.axes.specs.Axes.{boundOf, letterOf}
-use Rattle.grid.specs.Grid.{lettered, gridIn}
 use Rattle.text.specs.Texts.{printable, wellFormed, textIn}
 use Rattle.spelling.specs.declared.Columns.{Columns}
 use Rattle.spelling.specs.declared.Value.{Value}

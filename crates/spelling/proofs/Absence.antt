@@ -1,21 +1,21 @@
 -- Blank columns are absent whatever their spelling, and nothing else is: blank is never zero.
-use Prim.Native.Nat.{ℕ, zero, suc, _-_}
+use Prim.Native.Nat.{ℕ, zero, _-_}
 use native.Mathlib.Omega.{arith}
 use native.Mathlib.Nat.{sub-zero}
 use mathlib.Core.Path.{_≡_, refl, sym, ap, _∙_}
 use mathlib.Core.List.{List, [], _∷_}
 use mathlib.Core.Bool.{Bool, true, false, cond, _||_, _&&_, not}
-use lib.ListN.{length, getD, take, drop, replicate, length-replicate, drop-of-length-le}
+use lib.ListN.{length, getD, take, replicate, length-replicate, drop-of-length-le}
 use lib.Dec.{eqb, leb, ltb}
-use lib.IntN.{ℤ}
 use borrow.Author.Tests.{eq-eqb, eqb-true}
-use Rattle.digits.specs.Figures.{blanks, unpadded, valueFrom}
+use Rattle.digits.specs.Figures.{blanks, unpadded, valueFrom, limit}
 use Rattle.digits.proofs.Walk.{blank-all, all-blank, unpadded-none}
 use Rattle.number.specs.declared.Number.{Number}
 use Rattle.number.specs.declared.Number.the-variants.{Absent as NoNumber, Held as Numeral, Malformed as OddNumber, OutOfRange as LargeNumber}
-use Rattle.number.specs.Reading.{allDigits, numberOf, signOf}
+use Rattle.number.specs.declared.Figures.{Figures}
+use Rattle.number.specs.declared.Figures.the-variants.{Units, Not}
+use Rattle.number.specs.Reading.{allDigits, figuresOf, heldOf, numberOf, signOf}
 use Rattle.signs.specs.Signs.{signedOf}
-use Rattle.numerals.proofs.Agreed.{absent-blank}
 use Rattle.date.specs.declared.Dated.{Dated}
 use Rattle.date.specs.declared.Dated.the-variants.{Absent as NoDate, Held as Day, Malformed as OddDate, OutOfRange as NoDay}
 use Rattle.date.specs.Calendar.{isDate}
@@ -31,13 +31,36 @@ use Rattle.grid.specs.Grid.{presentOf, gridOf}
 use Rattle.text.specs.Texts.{textEnd, leadingBlank}
 use Rattle.text.proofs.Back.{end-blanks}
 use Rattle.text.proofs.Agreed.{blank-behind}
-use Rattle.spelling.specs.declared.Value.{Value}
-use Rattle.spelling.specs.declared.Value.the-variants.{Absent, Whole, Decimal, Angle, Date, Text}
-use Rattle.spelling.specs.declared.Reading.{Reading}
-use Rattle.spelling.specs.declared.Reading.the-variants.{Held, Malformed, OutOfRange}
+use Rattle.spelling.specs.declared.Value.the-variants.{Absent, Text}
+use Rattle.spelling.specs.declared.Reading.the-variants.{Held, Malformed}
 use Rattle.spelling.specs.declared.Spelling.{Spelling}
 use Rattle.spelling.specs.declared.Spelling.the-variants as spelled
 use Rattle.spelling.specs.Reading.{textReading, wholeReading, decimalReading, dateReading, angleReading, readingOf}
+
+-- no number is absent where there is anything
+held-present : (minus : Bool) (f : Figures) → heldOf minus f ≡ NoNumber → ⊥
+unfolding heldOf
+held-present minus Not e = let x : _≡_ {A = ℕ} 0 1 = cc in omega arith
+held-present minus (Units n p) e = go (ltb n limit) e
+  where
+    go : (t : Bool) → cond t (Numeral (record { units = signedOf minus n; places = p })) LargeNumber ≡ NoNumber → ⊥
+    go true h = let x : _≡_ {A = ℕ} 0 1 = cc in omega arith
+    go false h = let x : _≡_ {A = ℕ} 0 1 = cc in omega arith
+
+absent-blank : (point : Bool) (s : List ℕ) → numberOf point s ≡ NoNumber → unpadded s ≡ []
+unfolding numberOf signOf
+absent-blank point s e = go (unpadded s) e
+  where
+    test : (b : ℕ) (t : List ℕ) (x y : Bool)
+        → cond x (heldOf true (figuresOf point t)) (cond y (heldOf false (figuresOf point t)) (heldOf false (figuresOf point (b ∷ t)))) ≡ NoNumber
+        → b ∷ t ≡ []
+    test b t true y h = absurd (held-present true (figuresOf point t) h)
+    test b t false true h = absurd (held-present false (figuresOf point t) h)
+    test b t false false h = absurd (held-present false (figuresOf point (b ∷ t)) h)
+
+    go : (v : List ℕ) → signOf point v ≡ NoNumber → v ≡ []
+    go [] h = refl
+    go (b ∷ t) h = test b t (eqb b 45) (eqb b 43) h
 
 -- blank columns
 abbrev pub blankIn : ℕ → List ℕ

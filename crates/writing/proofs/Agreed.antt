@@ -3,11 +3,10 @@ use Prim.Native.Nat.{ℕ}
 use mathlib.Core.Path.{_≡_, refl, sym, ap, subst, _∙_}
 use mathlib.Core.List.{List}
 use mathlib.Core.Bool.{Bool, true, false, cond, _||_, not, true≢false, false≢true}
-use mathlib.Core.Option.{Option, none, some}
-use lib.ListN.{length, replicate}
+use lib.ListN.{length}
 use lib.Dec.{eqb}
 use borrow.Author.Tests.{eqb-false}
-use Rattle.digits.specs.Columns.{Entry, agreed, refused, roomOf}
+use Rattle.digits.specs.Columns.{Entry, agreed, roomOf}
 use Rattle.number.specs.declared.Decimal.{Decimal as DecimalOf}
 use Rattle.number.specs.declared.Number.{Number}
 use Rattle.number.specs.declared.Number.the-variants.{Absent as NoNumber, Held as Numeral, Malformed as OddNumber, OutOfRange as LargeNumber}
@@ -16,7 +15,7 @@ use Rattle.numerals.specs.Spelling.{decimalIn}
 use Rattle.numerals.proofs.Agreed.{decimal-agreed, whole-places}
 use Rattle.date.specs.declared.Dated.{Dated}
 use Rattle.date.specs.declared.Dated.the-variants.{Absent as NoDate, Held as Day, Malformed as OddDate, OutOfRange as NoDay}
-use Rattle.date.specs.Dates.{dateOf, dateIn}
+use Rattle.date.specs.Dates.{dateOf}
 use Rattle.date.proofs.Agreed.{date-agreed}
 use Rattle.position.specs.declared.Angled.{Angled}
 use Rattle.position.specs.declared.Angled.the-variants.{Absent as NoAngle, Held as Arc, Malformed as OddAngle, OutOfRange as LargeAngle}
@@ -24,8 +23,8 @@ use Rattle.axes.specs.declared.Axis.{Axis}
 use Rattle.axes.specs.declared.Axis.the-variants.{Y, X}
 use Rattle.position.specs.Angles.{angleOf}
 use Rattle.grid.specs.Grid.{gridOf}
-use Rattle.position.proofs.Agreed.{angle-agreed}
-use Rattle.grid.proofs.Agreed.{grid-agreed}
+use Rattle.plotting.proofs.ArcAgreed.{angle-agreed}
+use Rattle.plotting.proofs.GridAgreed.{grid-agreed}
 use Rattle.text.specs.Texts.{textEnd, textOf, printable, leadingBlank, textIn}
 use Rattle.text.proofs.Agreed.{text-again}
 use Rattle.spelling.specs.declared.Columns.{Columns}

@@ -1,15 +1,14 @@
 -- What an entry agreed to write reads back as the same value, in the same width.
 use Prim.Native.Nat.{ℕ, _≤_}
 use native.Mathlib.Omega.{arith}
-use mathlib.Core.Path.{_≡_, refl, sym, ap, subst, _∙_}
+use mathlib.Core.Path.{_≡_, refl, ap, subst, _∙_}
 use mathlib.Core.List.{List}
-use mathlib.Core.Bool.{Bool, true, false, cond, _||_, not}
+use mathlib.Core.Bool.{Bool, true, false}
 use mathlib.Core.Option.{Option, none, some}
 use lib.ListN.{length, replicate, length-replicate}
 use borrow.Author.Tests.{ne-eqb}
 use Rattle.digits.specs.declared.Written.{Written}
-use Rattle.digits.specs.declared.Written.the-variants.{OtherKind, NoRoom}
-use Rattle.digits.specs.Columns.{Entry, agreed, refused, roomOf}
+use Rattle.digits.specs.Columns.{agreed, refused, roomOf}
 use Rattle.numerals.specs.Spelling.{decimalIn}
 use Rattle.numerals.proofs.Back.{number-back}
 use Rattle.date.proofs.Back.{date-back}
@@ -17,9 +16,9 @@ use Rattle.axes.specs.declared.Axis.{Axis}
 use Rattle.axes.specs.declared.Axis.the-variants.{Y, X}
 use Rattle.position.specs.Angles.{angleOf}
 use Rattle.grid.specs.Grid.{gridOf}
-use Rattle.position.proofs.Back.{angle-back}
-use Rattle.grid.proofs.Back.{grid-back}
-use Rattle.text.specs.Texts.{textEnd, textOf, leadingBlank, textIn}
+use Rattle.plotting.proofs.ArcBack.{angle-back}
+use Rattle.plotting.proofs.GridBack.{grid-back}
+use Rattle.text.specs.Texts.{textEnd}
 use Rattle.text.proofs.Back.{PutText, text-back}
 use Rattle.spelling.specs.declared.Value.{Value}
 use Rattle.spelling.specs.declared.Value.the-variants.{Absent, Whole, Decimal, Angle, Date, Text}

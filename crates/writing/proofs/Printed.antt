@@ -2,9 +2,9 @@
 use Prim.Native.Nat.{ℕ, zero, suc, _+_, _-_, _/_, _%_, _^_, _≤_, _<_, max}
 use native.Mathlib.Omega.{arith}
 use native.Mathlib.Nat.{mod-lt}
-use mathlib.Core.Path.{_≡_, refl, sym, ap, subst, _∙_}
+use mathlib.Core.Path.{_≡_, refl, sym, subst, _∙_}
 use mathlib.Core.List.{List, [], _∷_, _++_}
-use mathlib.Core.Bool.{Bool, true, false, cond, _&&_, not, false≢true}
+use mathlib.Core.Bool.{Bool, true, false, cond, _&&_, not}
 use mathlib.Core.Option.{Option, none, some}
 use lib.ListN.{length, replicate}
 use lib.Dec.{leb, ltb, eqb}
@@ -12,12 +12,12 @@ use lib.IntN.{ℤ, natAbs}
 use borrow.Author.Tests.{le-leb}
 use Rattle.digits.specs.Figures.{limit}
 use Rattle.digits.specs.Digits.{digits, size}
-use Rattle.digits.specs.Columns.{Entry, agreed, refused, roomOf, rightAdjusted, orElse}
+use Rattle.digits.specs.Columns.{agreed, refused, rightAdjusted, orElse}
 use Rattle.digits.specs.declared.Written.the-variants as written
 use Rattle.digits.proofs.Bools.{and-left, and-right, and-both}
 use Rattle.number.specs.declared.Decimal.{Decimal as DecimalOf}
 use Rattle.signs.specs.Signs.{isMinus}
-use Rattle.numerals.specs.Spelling.{sign, pointed, plain, spelled, unitsIn as unitsAt, decimalIn}
+use Rattle.numerals.specs.Spelling.{sign, plain, spelled, unitsIn as unitsAt, decimalIn}
 use Rattle.numerals.proofs.Back.{adjusted-back}
 use Rattle.date.specs.declared.Date.{Date as DateOf}
 use Rattle.date.specs.Calendar.{isDate}
@@ -25,8 +25,7 @@ use Rattle.date.specs.Dates.{numberOf, dateIn}
 use Rattle.axes.specs.declared.Axis.{Axis}
 use Rattle.axes.specs.declared.Axis.the-variants.{Y, X}
 use Rattle.axes.specs.Axes.{boundOf, letterOf}
-use Rattle.position.specs.Angles.{figuresIn, angleIn}
-use Rattle.grid.specs.Grid.{lettered, gridIn}
+use Rattle.plotting.specs.Plotting.{figuresIn, angleIn, lettered, gridIn}
 use Rattle.text.specs.Texts.{printable, wellFormed, textIn}
 use Rattle.spelling.specs.declared.Value.{Value}
 use Rattle.spelling.specs.declared.Value.the-variants.{Absent, Whole, Decimal, Angle, Date, Text}

@@ -1,17 +1,15 @@
 -- What an entry leaves in the columns of one field, for each of the paper's spellings.
 use Prim.Native.Nat.{ℕ}
 use mathlib.Core.List.{List}
-use mathlib.Core.Bool.{Bool, true, false}
+use mathlib.Core.Bool.{true, false}
 use lib.ListN.{length, replicate}
-use lib.IntN.{ℤ}
 use Rattle.digits.specs.declared.Written.the-variants.{Malformed as Odd, OutOfRange as Outside, OtherKind}
 use Rattle.digits.specs.Columns.{Entry, agreed, refused, roomOf}
 use Rattle.numerals.specs.Spelling.{decimalIn}
 use Rattle.date.specs.Dates.{dateIn}
 use Rattle.axes.specs.declared.Axis.{Axis}
 use Rattle.axes.specs.declared.Axis.the-variants.{Y, X}
-use Rattle.position.specs.Angles.{angleIn}
-use Rattle.grid.specs.Grid.{gridIn}
+use Rattle.plotting.specs.Plotting.{angleIn, gridIn}
 use Rattle.text.specs.Texts.{textOf, textIn}
 use Rattle.spelling.specs.declared.Value.{Value}
 use Rattle.spelling.specs.declared.Value.the-variants.{Absent, Whole, Decimal, Angle, Date, Text}

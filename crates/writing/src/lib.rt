@@ -90,7 +90,7 @@ fn write_arc(columns: &mut [u8], axis: Axis, v: Value) -> Written
 {
     match v {
         Value::Absent => blank(columns),
-        Value::Angle(z) => position::write_angle(columns, axis, z),
+        Value::Angle(z) => plotting::write_angle(columns, axis, z),
         _ => Written::OtherKind,
     }
 }
@@ -102,7 +102,7 @@ fn write_grid(columns: &mut [u8], axis: Axis, v: Value) -> Written
 {
     match v {
         Value::Absent => blank(columns),
-        Value::Decimal(d) => grid::write_grid(columns, axis, d),
+        Value::Decimal(d) => plotting::write_grid(columns, axis, d),
         _ => Written::OtherKind,
     }
 }

@@ -1,5 +1,4 @@
 -- `entry::is_within` meets its contract.
-use lib.IntN.{ℤ}
 use mir.ValLaws.{toZ-ofZ}
 use mir.Syntax.{w64}
 use mathlib.Core.Path.{sym, ap, ap₂, _∙_}

@@ -1,9 +1,8 @@
 -- `offences::offence` meets its contract.
 use denote.Ref.{now}
-use mathlib.Core.Path.{refl, sym, ap, _∙_}
+use mathlib.Core.Path.{sym}
 use native.Mathlib.Omega.{arith}
 use Rattle.layout.specs.Packed.{unpack}
-use Rattle.needing.specs.Needs.{neededOn}
 use Rattle.offences.proofs.Offences.{offence-other, offence-missing, offence-none, columns-some, columns-wide}
 use borrow.Author.Needs.{needs}
 use Rattle.offences.proofs.offence.Statement.{statement}

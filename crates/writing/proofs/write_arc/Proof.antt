@@ -8,13 +8,12 @@ use mir.Syntax.{w64}
 use lib.IntN.{ℤ}
 use lib.ListN.{length}
 use mathlib.Core.Path.{sym, ap, _∙_}
-use native.Mathlib.Omega.{arith}
 use borrow.Author.Needs.{needs}
 use Rattle.writing.proofs.write_arc.Statement.{statement}
 use Rattle.writing.proofs.write_arc.Tie as tie
 use Rattle.writing.proofs.write_arc.Reads as reads
 use Rattle.writing.proofs.write_arc.Lts as lts
-use Rattle.position.proofs.write_angle.Reads as write-angle-reads
+use Rattle.plotting.proofs.write_angle.Reads as write-angle-reads
 use Rattle.writing.proofs.blank.Reads as blank-reads
 
 -- src/lib.rt:231:32

@@ -4,13 +4,12 @@ use Rattle.digits.proofs.Answers.{turned-away}
 use denote.Ref.{now}
 use lib.ListN.{length}
 use mathlib.Core.Path.{ap}
-use native.Mathlib.Omega.{arith}
 use borrow.Author.Needs.{needs}
 use Rattle.writing.proofs.write_grid.Statement.{statement}
 use Rattle.writing.proofs.write_grid.Tie as tie
 use Rattle.writing.proofs.write_grid.Reads as reads
 use Rattle.writing.proofs.write_grid.Lts as lts
-use Rattle.grid.proofs.write_grid.Reads as write-grid-reads
+use Rattle.plotting.proofs.write_grid.Reads as write-grid-reads
 use Rattle.writing.proofs.blank.Reads as blank-reads
 
 -- src/lib.rt:243:32

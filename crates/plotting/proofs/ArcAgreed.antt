@@ -14,9 +14,10 @@ use Rattle.numerals.proofs.Agreed.{signed-size}
 use Rattle.signs.specs.Signs.{isMinus}
 use Rattle.numerals.specs.Spelling.{plain}
 use Rattle.axes.specs.Axes.{boundOf, letterOf}
-use Rattle.position.specs.Angles.{unitsOf, partsOf, isSpelled, arcOf, angledOf, angleOf, figuresIn, angleIn}
+use Rattle.position.specs.Angles.{unitsOf, partsOf, isSpelled, arcOf, angledOf, angleOf}
+use Rattle.plotting.specs.Plotting.{figuresIn, angleIn}
 use Rattle.axes.specs.declared.Axis.{Axis}
 use Rattle.position.specs.declared.Angled.the-variants.{Absent, Held, Malformed, OutOfRange}
 
 pub angle-agreed : (a : Axis) (s : List ℕ) (z : ℤ) → angleOf a s ≡ Held z → (t : List ℕ) × (angleIn a (length s) z ≡ agreed t)
 unfolding angleOf angledOf angleIn

@@ -6,14 +6,14 @@ use mathlib.Core.Path.{_≡_, refl, sym, ap, ap₂, _∙_}
 use mathlib.Core.Bool.{false}
 use lib.ListN.{length, drop}
 use borrow.Author.Tests.{ne-eqb}
-use Rattle.digits.specs.Figures.{isDigit, blanks, unpadded, leading, valueFrom, limit, capped, runOf}
+use Rattle.digits.specs.Figures.{unpadded, valueFrom, limit, capped, runOf}
 use Rattle.digits.specs.Digits.{digits}
 use Rattle.digits.proofs.Numbers.{digits-alone, digits-value, no-blanks}
 use Rattle.digits.proofs.Spell.{digits-length}
 use Rattle.number.specs.Reading.{countedOf, figuresOf}
 use Rattle.number.specs.declared.Figures.the-variants.{Units}
 use Rattle.number.proofs.Parsing.{figures-whole}
 use Rattle.position.specs.Angles.{paddedOf}
 
 module _ (k n : ℕ) (some-digit : 0 < k) (few : 10 ^ k ≤ limit) (positive : 0 < 10 ^ k) where
   -- the last k digits of n are read as a number

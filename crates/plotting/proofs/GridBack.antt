@@ -18,7 +18,8 @@ use Rattle.number.specs.declared.Decimal.{Decimal}
 use Rattle.numerals.proofs.Back.{number-back}
 use Rattle.number.specs.declared.Number.the-variants.{Held as Holds}
 use Rattle.axes.specs.Axes.{letterOf}
-use Rattle.grid.specs.Grid.{presentOf, gridOf, lettered, gridIn}
+use Rattle.grid.specs.Grid.{presentOf, gridOf}
+use Rattle.plotting.specs.Plotting.{lettered, gridIn}
 use Rattle.axes.specs.declared.Axis.{Axis}
 use Rattle.digits.proofs.Blank.{blank-at}
 use Rattle.axes.proofs.Letters.{letter-blank}

@@ -13,7 +13,7 @@ use Rattle.signs.specs.Signs.{isMinus}
 use Rattle.numerals.specs.Spelling.{plain, plainIn}
 use Rattle.numerals.proofs.Writing.{plain-exact, put-letter}
 use Rattle.axes.specs.Axes.{boundOf, letterOf}
-use Rattle.position.specs.Angles.{figuresIn, angleIn}
+use Rattle.plotting.specs.Plotting.{figuresIn, angleIn}
 use Rattle.axes.specs.declared.Axis.{Axis}
 
 module _ (a : Axis) (w : ℕ) (z : ℤ) (n : ℕ) (e : n ≡ natAbs z) (b : ℕ) (f : b ≡ boundOf a) where

@@ -16,7 +16,8 @@ use Rattle.number.specs.declared.Number.{Number}
 use Rattle.number.specs.declared.Number.the-variants.{Absent as Missing, Held as Holds, Malformed as Odd, OutOfRange as Outside}
 use Rattle.numerals.proofs.Agreed.{decimal-agreed}
 use Rattle.axes.specs.Axes.{letterOf}
-use Rattle.grid.specs.Grid.{presentOf, gridOf, gridIn}
+use Rattle.grid.specs.Grid.{presentOf, gridOf}
+use Rattle.plotting.specs.Plotting.{gridIn}
 use Rattle.axes.specs.declared.Axis.{Axis}
 
 -- a number that is there

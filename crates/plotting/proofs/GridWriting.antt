@@ -13,7 +13,7 @@ use Rattle.digits.specs.Columns.{agreed, refused, fits, written}
 use Rattle.numerals.specs.Spelling.{decimalIn}
 use Rattle.number.specs.declared.Decimal.{Decimal}
 use Rattle.axes.specs.Axes.{letterOf}
-use Rattle.grid.specs.Grid.{gridIn}
+use Rattle.plotting.specs.Plotting.{gridIn}
 use Rattle.axes.specs.declared.Axis.{Axis}
 use Rattle.numerals.proofs.Writing.{put-letter}
 

@@ -1,4 +1,4 @@
--- `position::write_angle` meets its contract.
+-- `plotting::write_angle` meets its contract.
 use mathlib.Core.Path.{sym, _∙_, ap}
 use denote.Ref.{now}
 use mir.Syntax.{w64}
@@ -8,11 +8,11 @@ use lib.Seq.{length-take-le}
 use Rattle.signs.specs.Signs.{isMinus}
 use Rattle.axes.specs.Axes.{letterOf}
 use Rattle.digits.proofs.Answers.{made, turned-away}
-use Rattle.position.proofs.Writing.{angle-outside, angle-no-room, angle-room, angle-written}
+use Rattle.plotting.proofs.ArcWriting.{angle-outside, angle-no-room, angle-room, angle-written}
 use native.Mathlib.Omega.{arith}
 use borrow.Author.Needs.{needs}
-use Rattle.position.proofs.write_angle.Statement.{statement}
-use Rattle.position.proofs.write_angle.Tie as tie
+use Rattle.plotting.proofs.write_angle.Statement.{statement}
+use Rattle.plotting.proofs.write_angle.Tie as tie
 
 magnitude-requires : tie.Need-magnitude-requires
 magnitude-requires c κs = search needs
