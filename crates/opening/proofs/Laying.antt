@@ -16,9 +16,11 @@ use Rattle.codes.specs.declared.Code.the-variants as code
 use Rattle.codes.specs.Codes.{codeOf}
 use Rattle.codes.proofs.Walk.{wrong-length}
 use Rattle.seeking.specs.Card.{refusal}
-use Rattle.spelling.proofs.Absence.{zero-one}
 use Rattle.opening.specs.declared.Opened.the-variants.{Refused}
 use Rattle.opening.specs.Opening.{labelled, newCard, codeAnswer, openedOf, cardWith, openedCard}
+
+zero-one : _≡_ {A = ℕ} 0 1 → ⊥
+zero-one h = omega arith
 
 -- a label with blanks behind it, byte by byte
 blank-at : (n i : ℕ) → i < n → _≡_ {A = ℕ} (getD (replicate n 32) i 0) 32
