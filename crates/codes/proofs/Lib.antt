@@ -1,4 +1,3 @@
-pub mod Bytes
 pub mod Places
 pub mod Worded
 pub mod Walk

@@ -1,4 +1,4 @@
--- The patterns that a walk may leave out: they have lower heads than the code, or begin with a higher byte.
+-- The patterns that a walk may leave out: they take only codes below the one at hand, or begin with a higher byte.
 use mathlib.Core.Path.{_≡_, refl, sym, _∙_, ap}
 use mathlib.Core.Bool.{Bool, true, false, _||_}
 use mathlib.Core.List.{List, [], _∷_}
@@ -10,7 +10,7 @@ use lib.ListN.{length, getD, drop}
 use Rattle.layout.proofs.Every.{every, at}
 use Rattle.layout.specs.Table.{layouts, passedCodes}
 use Rattle.codes.specs.Codes.{fitsAt, fits, codes, placeIn, patternCount}
-use Rattle.layout.specs.Packed.{headOf}
+use Rattle.layout.specs.Packed.{headOf, wordOf}
 use Rattle.codes.proofs.Places.{codes-count}
 use Rattle.codes.proofs.Apart.{least, most, between, Fits, in-each, decide, either}
 
@@ -26,27 +26,30 @@ skip (p ∷ ps) s (suc k) h n =
     skip ps s k (le-of-suc-le-suc h) (λ (i : ℕ) (l : i < k). n (suc i) (suc-le-suc l)) in
     rw e (omega arith)
 
--- the highest head of a code that fits a pattern
+-- the highest code that fits a pattern, as one number
 abbrev top : List ℕ → ℕ
-top p = (most (getD p 0 0) * 256 + most (getD p 1 0)) * 256 + most (getD p 2 0)
+top p =
+    (((most (getD p 0 0) * 256 + most (getD p 1 0)) * 256 + most (getD p 2 0)) * 256 + most (getD p 3 0)) * 256 + most (getD p 4 0)
 
-fits-below : (p s : List ℕ) → fits p s ≡ true → headOf s ≤ top p
-unfolding fitsAt headOf
+fits-below : (p s : List ℕ) → fits p s ≡ true → wordOf s ≤ top p
+unfolding fitsAt headOf wordOf
 fits-below p s f =
     omega (
       arith,
       between (getD p 0 0) (getD s 0 0) (in-each p s f .first) .1,
       between (getD p 1 0) (getD s 1 0) (in-each p s f .second) .1,
       between (getD p 2 0) (getD s 2 0) (in-each p s f .third) .1,
+      between (getD p 3 0) (getD s 3 0) (in-each p s f .fourth) .1,
+      between (getD p 4 0) (getD s 4 0) (in-each p s f .fifth) .1,
     )
 
--- the patterns before the one with a number have lower heads
+-- the patterns before the one with a number take only lower codes
 abbrev pub lower : ℕ → ℕ → ℕ → List ℕ → Bool
 lower k h i p = leb k i || ltb (top p) h
 
-pub from-head : (k h : ℕ) → k ≤ patternCount → T (every (lower k h) 0 codes) → (n : ℕ) → h ≤ n → (s : List ℕ) → headOf s ≡ n
+pub from-word : (k h : ℕ) → k ≤ patternCount → T (every (lower k h) 0 codes) → (n : ℕ) → h ≤ n → (s : List ℕ) → wordOf s ≡ n
     → placeIn codes s ≡ k + placeIn (drop k codes) s
-from-head k h hk t n hn s e = skip codes s k (omega (arith, codes-count)) (λ (i : ℕ) (l : i < k). decide (fits (getD codes i []) s)
+from-word k h hk t n hn s e = skip codes s k (omega (arith, codes-count)) (λ (i : ℕ) (l : i < k). decide (fits (getD codes i []) s)
     (λ (f : fits (getD codes i []) s ≡ true).
     either (leb k i) (ltb (top (getD codes i [])) h) (at (lower k h) [] codes t i (omega (arith, codes-count)))
     (λ (a : T (leb k i)). omega (arith, leb→le k i a))
@@ -61,11 +64,11 @@ all-higher : T (every higher 0 codes)
 unfolding codes layouts passedCodes
 all-higher = tt
 
-first-below : (s : List ℕ) → headOf s < 4718592 → getD s 0 0 < 72
-unfolding headOf
+first-below : (s : List ℕ) → wordOf s < 309237645312 → getD s 0 0 < 72
+unfolding headOf wordOf
 first-below s h = omega arith
 
-pub from-comments : (n : ℕ) → n < 4718592 → (s : List ℕ) → headOf s ≡ n → placeIn codes s ≡ 10 + placeIn (drop 10 codes) s
+pub from-comments : (n : ℕ) → n < 309237645312 → (s : List ℕ) → wordOf s ≡ n → placeIn codes s ≡ 10 + placeIn (drop 10 codes) s
 unfolding fitsAt
 from-comments n h s e = skip codes s 10 (omega (arith, codes-count)) (λ (i : ℕ) (l : i < 10). decide (fits (getD codes i []) s)
     (λ (f : fits (getD codes i []) s ≡ true).

@@ -4,7 +4,7 @@ ghost use Prim.Native.Nat.{ℕ, _<_, _≤_, _+_, _*_};
 ghost use mathlib.Core.List.{List};
 ghost use lib.ListN.{length, drop};
 ghost use Rattle.layout.specs.Table.{passedCodes};
-ghost use Rattle.layout.specs.Packed.{headOf, layoutCount};
+ghost use Rattle.layout.specs.Packed.{wordOf, layoutCount};
 ghost use Rattle.codes.specs.Codes.{byteFits, codes, placeIn, codeAt, codeOf};
 ghost use Rattle.codes.specs.Words.{fitsWord};
 
@@ -12,18 +12,22 @@ mod rows;
 
 use rows::passed;
 
-// Heads, the first three bytes of a code as one number: the least with an H, and those at which layouts begin.
-const H: u64 = 0x48_00_00;
+// Codes, their five bytes as one number: the least with an H, and those at which layouts begin.
+const H: u64 = 0x48_00_00_00_00;
 
-const H01: u64 = 0x48_30_31;
+const H01: u64 = 0x48_30_31_00_00;
 
-const H17: u64 = 0x48_31_37;
+const H0101: u64 = 0x48_30_31_30_31;
 
-const H21: u64 = 0x48_32_31;
+const H17: u64 = 0x48_31_37_00_00;
 
-const H22: u64 = 0x48_32_32;
+const H21: u64 = 0x48_32_31_00_00;
 
-const H23: u64 = 0x48_32_33;
+const H22: u64 = 0x48_32_32_00_00;
+
+const H23: u64 = 0x48_32_33_00_00;
+
+const H2310: u64 = 0x48_32_33_31_30;
 
 // A card's code: read by the layout with a number, passed, or unknown.
 pub enum Code {
@@ -32,14 +36,17 @@ pub enum Code {
     Unknown,
 }
 
-// Whether a byte is one that a pattern's byte stands for; without a branch, as most codes are compared with several patterns.
+// Whether a byte is one that a pattern's byte stands for.
 fn byte_fits(pattern: u8, byte: u8) -> bool
     ensures { λ r. ⌜ r ≡ byteFits pattern byte ⌝ }
 {
-    let some = (pattern == b'@') & ((b'1' <= byte) & (byte <= b'9'));
-    let any = (pattern == b'#') & ((b'0' <= byte) & (byte <= b'9'));
-    let itself = ((pattern != b'@') & (pattern != b'#')) & (pattern == byte);
-    (some | any) | itself
+    if pattern == b'@' {
+        return (b'1' <= byte) & (byte <= b'9');
+    }
+    if pattern == b'#' {
+        return (b'0' <= byte) & (byte <= b'9');
+    }
+    pattern == byte
 }
 
 // A code's first three bytes as one number.
@@ -49,36 +56,55 @@ fn head_of(first: u8, second: u8, third: u8) -> u64
     (first as u64 * 256 + second as u64) * 256 + third as u64
 }
 
-// Whether a code fits a pattern: its first three bytes, which no pattern leaves open, and the last two.
+// A code's five bytes as one number.
+fn word_of(head: u64, fourth: u8, fifth: u8) -> u64
+    requires { ⌜ head < 16777216 ⌝ }
+    ensures { λ r. ⌜ r ≡ (head * 256 + fourth) * 256 + fifth ⌝ }
+{
+    (head * 256 + fourth as u64) * 256 + fifth as u64
+}
+
+// Whether a code fits a pattern: first its first three bytes, which no pattern leaves open, then the last, then the fourth.
 fn fits_word(word: u64, head: u64, fourth: u8, fifth: u8) -> bool
     ensures { λ r. ⌜ r ≡ fitsWord word head fourth fifth ⌝ }
 {
-    (word / 65536 == head)
-        & (byte_fits((word % 256) as u8, fifth) & byte_fits((word / 256 % 256) as u8, fourth))
+    if word / 65536 != head {
+        return false;
+    }
+    if !byte_fits((word % 256) as u8, fifth) {
+        return false;
+    }
+    byte_fits((word / 256 % 256) as u8, fourth)
 }
 
-// A layout before which none reads a code with a head: the comments, or the first that begins with no lower head. Layouts
-// behind the last one change nothing here.
-fn start_of(head: u64) -> usize
-    ensures { λ r. ⌜ (r ≤ layoutCount) × ((s : List ℕ) → headOf s ≡ head → placeIn codes s ≡ r + placeIn (drop r codes) s) ⌝ }
+// A layout before which none reads a code: the first that takes none below it, or the comments. Layouts behind the last one
+// change nothing here.
+fn start_of(word: u64) -> usize
+    ensures { λ r. ⌜ (r ≤ layoutCount) × ((s : List ℕ) → wordOf s ≡ word → placeIn codes s ≡ r + placeIn (drop r codes) s) ⌝ }
 {
-    if head < H {
-        return 10;
+    if H2310 <= word {
+        return 24;
     }
-    if H23 <= head {
+    if H23 <= word {
         return 23;
     }
-    if H22 <= head {
+    if H22 <= word {
         return 22;
     }
-    if H21 <= head {
+    if H21 <= word {
         return 18;
     }
-    if H17 <= head {
+    if H17 <= word {
         return 16;
     }
-    if H01 <= head {
+    if H0101 <= word {
+        return 13;
+    }
+    if H01 <= word {
         return 12;
+    }
+    if word < H {
+        return 10;
     }
     0
 }
@@ -112,7 +138,7 @@ fn read_by(code: &[u8]) -> Code
     let head = head_of(code[0], code[1], code[2]);
     let fourth = code[3];
     let fifth = code[4];
-    let mut number = start_of(head);
+    let mut number = start_of(word_of(head, fourth, fifth));
     loop {
         let word = layout::row_of(number, 0);
         if word == 0 {

@@ -2,34 +2,20 @@
 use layout::Kind;
 use layout::Range;
 ghost use mathlib.Core.Path.{_≡_};
-ghost use Rattle.layout.specs.Packed.{tens, hundreds, kindOf, rangeOf, unpack};
-
-// The number whose two decimal digits are hexadecimal ones.
-fn tens(digits: u64) -> u64
-    ensures { λ r. ⌜ r ≡ tens digits ⌝ }
-{
-    digits / 16 * 10 + digits % 16
-}
-
-// The same of three digits.
-fn hundreds(digits: u64) -> u64
-    ensures { λ r. ⌜ r ≡ hundreds digits ⌝ }
-{
-    digits / 256 * 100 + tens(digits % 256)
-}
+ghost use Rattle.layout.specs.Packed.{kindOf, rangeOf, unpack};
 
 // The first column of the field that a row holds.
 pub fn first_of(row: u64) -> usize
     ensures { λ r. ⌜ r ≡ unpack row .first ⌝ }
 {
-    tens(row / 0x1_00 % 256) as usize
+    (row / 0x1_00 % 256) as usize
 }
 
 // Its last column.
 pub fn last_of(row: u64) -> usize
     ensures { λ r. ⌜ r ≡ unpack row .last ⌝ }
 {
-    tens(row % 256) as usize
+    (row % 256) as usize
 }
 
 // Whether it is needed.
@@ -73,9 +59,9 @@ fn range_by(number: u64) -> Range
     if number == 0 {
         return Range::Any;
     }
-    let low = hundreds(number / 0x1_000_000 % 0x1_000);
-    let high = hundreds(number / 0x1_000 % 0x1_000);
-    let other = hundreds(number % 0x1_000);
+    let low = number / 0x1_000_000 % 0x1_000;
+    let high = number / 0x1_000 % 0x1_000;
+    let other = number % 0x1_000;
     match number / 0x1_000_000_000 {
         0 => Range::Any,
         1 => Range::AtLeast(low),

@@ -14,7 +14,7 @@ use Rattle.layout.specs.declared.Found.the-variants.{Is, Nothing}
 use Rattle.layout.specs.Shape.{Layout}
 use Rattle.layout.specs.Table.{layouts}
 use Rattle.layout.specs.Layouts.{layoutAt, fieldsOf, fieldOf, noField}
-use Rattle.layout.specs.Packed.{layoutCount, tens, hundreds, kindOf, rangeOf, pack, unpack, headOf, wordOf, rowOf, foundIn}
+use Rattle.layout.specs.Packed.{layoutCount, kindOf, rangeOf, pack, unpack, headOf, wordOf, rowOf, foundIn}
 use Rattle.layout.proofs.Places.{empty, past}
 
 -- the last arm of a `match`: the number is none of so many, from one on
@@ -57,7 +57,7 @@ past-rows p q h =
 -- what the number of a field holds is the field
 
 all-found : map (λ (l : Layout). map foundIn (map pack (l .fields))) layouts ≡ map (λ (l : Layout). map Is (l .fields)) layouts
-unfolding layouts foundIn unpack tens hundreds kindOf rangeOf
+unfolding layouts foundIn unpack kindOf rangeOf
 all-found = refl
 
 fields-found : (k : ℕ) → map foundIn (map pack (fieldsOf k)) ≡ map Is (fieldsOf k)

@@ -1,4 +1,4 @@
--- How the code holds the table: a code's bytes as one number, and a field as one whose hexadecimal digits are read as decimal ones.
+-- How the code holds the table: a code's bytes as one number, and a field as one whose hexadecimal digits are its parts.
 use Prim.Native.Nat.{ℕ, _+_, _-_, _*_, _/_, _%_}
 use mathlib.Core.Bool.{Bool, true, false, cond}
 use mathlib.Core.List.{List, [], _∷_, _++_, map}
@@ -18,19 +18,6 @@ use Rattle.layout.specs.Layouts.{layoutAt, fieldsOf, labelOf}
 abbrev pub layoutCount : ℕ
 layoutCount = length readTable
 
--- a number of two decimal digits, and one of three, in as many hexadecimal ones; and back
-abbrev pub twoDigits : ℕ → ℕ
-twoDigits n = 16 * (n / 10) + n % 10
-
-abbrev pub threeDigits : ℕ → ℕ
-threeDigits n = 256 * (n / 100) + twoDigits (n % 100)
-
-unfoldable pub tens : ℕ → ℕ
-tens n = n / 16 * 10 + n % 16
-
-unfoldable pub hundreds : ℕ → ℕ
-hundreds n = n / 256 * 100 + tens (n % 256)
-
 -- a kind's digit
 abbrev pub kindNumber : Kind → ℕ
 kindNumber Text = 10
@@ -48,19 +35,19 @@ kindOf n =
     (cond (eqb n 12) Comment
     (cond (eqb n 1) Whole (cond (eqb n 2) Decimal (cond (eqb n 13) Date (cond (eqb n 14) Latitude Longitude)))))
 
--- a range's number: one digit for its form, then three digits for each number
+-- a range's number: one digit for its form, then three for each number
 abbrev pub rangeNumber : Range → ℕ
 rangeNumber Any = 0
-rangeNumber (AtLeast a) = 68719476736 + 16777216 * threeDigits a
-rangeNumber (Between a b) = 2 * 68719476736 + 16777216 * threeDigits a + 4096 * threeDigits b
-rangeNumber (OneOf a b c) = 3 * 68719476736 + 16777216 * threeDigits a + 4096 * threeDigits b + threeDigits c
+rangeNumber (AtLeast a) = 68719476736 + 16777216 * a
+rangeNumber (Between a b) = 2 * 68719476736 + 16777216 * a + 4096 * b
+rangeNumber (OneOf a b c) = 3 * 68719476736 + 16777216 * a + 4096 * b + c
 
 unfoldable pub rangeOf : ℕ → Range
 rangeOf n =
     cond (eqb (n / 68719476736) 0) Any
-    (cond (eqb (n / 68719476736) 1) (AtLeast (hundreds (n / 16777216 % 4096)))
-    (cond (eqb (n / 68719476736) 2) (Between (hundreds (n / 16777216 % 4096)) (hundreds (n / 4096 % 4096)))
-    (OneOf (hundreds (n / 16777216 % 4096)) (hundreds (n / 4096 % 4096)) (hundreds (n % 4096)))))
+    (cond (eqb (n / 68719476736) 1) (AtLeast (n / 16777216 % 4096))
+    (cond (eqb (n / 68719476736) 2) (Between (n / 16777216 % 4096) (n / 4096 % 4096))
+    (OneOf (n / 16777216 % 4096) (n / 4096 % 4096) (n % 4096))))
 
 abbrev pub bit : Bool → ℕ
 bit true = 1
@@ -69,7 +56,7 @@ bit false = 0
 -- a field as one number: its last and first column, its marks, its kind, its range
 abbrev pub pack : Field → ℕ
 pack f =
-    twoDigits (f .last) + 256 * twoDigits (f .first) + 65536 * (bit (f .needed) + 2 * bit (f .second)) +
+    f .last + 256 * f .first + 65536 * (bit (f .needed) + 2 * bit (f .second)) +
     1048576 * kindNumber (f .kind) + 16777216 * rangeNumber (f .range)
 
 -- the field that a number holds
@@ -77,8 +64,8 @@ unfoldable pub unpack : ℕ → Field
 unpack n =
     record {
       kind = kindOf (n / 1048576 % 16);
-      first = tens (n / 256 % 256);
-      last = tens (n % 256);
+      first = n / 256 % 256;
+      last = n % 256;
       needed = eqb (n / 65536 % 2) 1;
       second = eqb (n / 131072 % 2) 1;
       range = rangeOf (n / 16777216);

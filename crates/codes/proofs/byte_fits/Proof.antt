@@ -1,11 +1,20 @@
--- `codes::byte_fits` meets its contract: of the three tests only the one that the pattern's byte asks for can hold.
-use mathlib.Core.Path.{sym}
-use Rattle.codes.proofs.Bytes.{byte-by-tests}
+-- `codes::byte_fits` meets its contract: the wild card or the byte itself picks the test.
+use Rattle.codes.specs.Codes.{byteFits}
+use borrow.Author.Tests.{ne-eqb}
 use Rattle.codes.proofs.byte_fits.Statement.{statement}
 use Rattle.codes.proofs.byte_fits.Tie as tie
 
 returns : tie.Need-returns
-returns c = sym (byte-by-tests _ _)
+unfolding byteFits
+returns c = rw (c .if1 .taken)
+
+returns-2 : tie.Need-returns-2
+unfolding byteFits
+returns-2 c = rw (c .if2 .taken)
+
+returns-3 : tie.Need-returns-3
+unfolding byteFits
+returns-3 c = rw (ne-eqb _ _ (c .before .if1 .left), ne-eqb _ _ (c .if2 .left))
 
 pub byte-fits-spec : {M : Type 1} → statement M
-byte-fits-spec = tie.close (tie.spec returns)
+byte-fits-spec = tie.close (tie.spec returns returns-2 returns-3)

@@ -5,7 +5,7 @@ use native.Mathlib.Omega.{arith}
 use borrow.Author.Needs.{needs}
 use denote.Ref.{now}
 use lib.ListN.{length, drop}
-use Rattle.layout.specs.Packed.{layoutCount, headOf}
+use Rattle.layout.specs.Packed.{layoutCount, headOf, wordOf}
 use Rattle.codes.specs.Codes.{codes, placeIn}
 use Rattle.codes.proofs.Places.{codes-count}
 use Rattle.codes.proofs.Walk.{hit, on, is-read, unread}
@@ -38,13 +38,18 @@ shared-slice-read-fourth c = search needs
 shared-slice-read-fifth : tie.Need-shared-slice-read-fifth Inv-loop μ-loop
 shared-slice-read-fifth c = search needs
 
+word-of-requires : tie.Need-word-of-requires Inv-loop μ-loop
+word-of-requires c κs =
+    let h = c .before .before .head-of .ensures in
+    omega arith
+
 start-of-requires : tie.Need-start-of-requires Inv-loop μ-loop
 start-of-requires c κs = search needs
 
 loop-holds : tie.Need-loop-holds Inv-loop μ-loop
-unfolding headOf
+unfolding headOf wordOf
 loop-holds c =
-    let h = c .before .before .before .head-of .ensures in (
+    let h = c .before .before .before .before .head-of .ensures in (
       c .start-of .ensures .0,
       record {
         five = search needs;
@@ -55,7 +60,7 @@ loop-holds c =
         second-byte = h .2;
         third-byte = h .3;
       },
-      c .start-of .ensures .1 _ (sym (h .0)),
+      c .start-of .ensures .1 _ (omega (arith, c .before .word-of .ensures, h .0)),
     )
 
 row-of-requires : tie.Need-row-of-requires Inv-loop μ-loop
@@ -119,6 +124,7 @@ read-by-spec =
     head-of-requires
     shared-slice-read-fourth
     shared-slice-read-fifth
+    word-of-requires
     start-of-requires
     loop-holds
     row-of-requires

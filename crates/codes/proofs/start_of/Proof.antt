@@ -1,8 +1,8 @@
--- `codes::start_of` meets its contract: the patterns before each start have lower heads, by computed tests.
+-- `codes::start_of` meets its contract: the patterns before each start take only lower codes, by computed tests.
 use native.Mathlib.Omega.{arith}
 use Rattle.layout.specs.Table.{layouts, passedCodes}
 use Rattle.codes.specs.Codes.{codes}
-use Rattle.codes.proofs.Skip.{from-comments, from-head}
+use Rattle.codes.proofs.Skip.{from-comments, from-word}
 use Rattle.codes.proofs.start_of.Statement.{statement}
 use Rattle.codes.proofs.start_of.Tie as tie
 
@@ -11,10 +11,12 @@ unfolding codes layouts passedCodes
 start-of-spec =
     tie.close
     (tie.spec
-    (λ c. (omega arith, from-comments _ (c .if1 .taken)))
-    (λ c. (omega arith, from-head 23 4731443 (omega arith) tt _ (c .if2 .taken)))
-    (λ c. (omega arith, from-head 22 4731442 (omega arith) tt _ (c .if3 .taken)))
-    (λ c. (omega arith, from-head 18 4731441 (omega arith) tt _ (c .if4 .taken)))
-    (λ c. (omega arith, from-head 16 4731191 (omega arith) tt _ (c .if5 .taken)))
-    (λ c. (omega arith, from-head 12 4730929 (omega arith) tt _ (c .if6 .taken)))
+    (λ c. (omega arith, from-word 24 310079861040 (omega arith) tt _ (c .if1 .taken)))
+    (λ c. (omega arith, from-word 23 310079848448 (omega arith) tt _ (c .if2 .taken)))
+    (λ c. (omega arith, from-word 22 310079782912 (omega arith) tt _ (c .if3 .taken)))
+    (λ c. (omega arith, from-word 18 310079717376 (omega arith) tt _ (c .if4 .taken)))
+    (λ c. (omega arith, from-word 16 310063333376 (omega arith) tt _ (c .if5 .taken)))
+    (λ c. (omega arith, from-word 13 310046175281 (omega arith) tt _ (c .if6 .taken)))
+    (λ c. (omega arith, from-word 12 310046162944 (omega arith) tt _ (c .if7 .taken)))
+    (λ c. (omega arith, from-comments _ (c .if8 .taken)))
     (λ c. (omega arith, λ s e. omega arith)))

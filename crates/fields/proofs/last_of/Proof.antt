@@ -1,15 +1,12 @@
 -- `fields::last_of` meets its contract: it is one part of the row.
+use mathlib.Core.Path.{refl}
 use Rattle.layout.specs.Packed.{unpack}
-use borrow.Author.Needs.{needs}
 use Rattle.fields.proofs.last_of.Statement.{statement}
 use Rattle.fields.proofs.last_of.Tie as tie
 
-tens-requires : tie.Need-tens-requires
-tens-requires c κs = search needs
-
 returns : tie.Need-returns
 unfolding unpack
-returns c = c .tens .ensures
+returns c = refl
 
 pub last-of-spec : {M : Type 1} → statement M
-last-of-spec = tie.close (tie.spec tens-requires returns)
+last-of-spec = tie.close (tie.spec returns)

@@ -1,7 +1,6 @@
 -- `fields::range_by` meets its contract: one form of range for each digit.
 use borrow.Author.Tests.{ne-eqb}
 use Rattle.layout.specs.Packed.{rangeOf}
-use borrow.Author.Needs.{needs}
 use Rattle.fields.proofs.range_by.Statement.{statement}
 use Rattle.fields.proofs.range_by.Tie as tie
 
@@ -9,40 +8,21 @@ returns : tie.Need-returns
 unfolding rangeOf
 returns c = rw (c .if1 .taken)
 
-hundreds-requires : tie.Need-hundreds-requires
-hundreds-requires c κs = search needs
-
-hundreds-requires-2 : tie.Need-hundreds-requires-2
-hundreds-requires-2 c κs = search needs
-
-hundreds-requires-3 : tie.Need-hundreds-requires-3
-hundreds-requires-3 c κs = search needs
-
 returns-2 : tie.Need-returns-2
 unfolding rangeOf
 returns-2 c = rw (c .match .keys1)
 
 returns-3 : tie.Need-returns-3
 unfolding rangeOf
-returns-3 c = rw (c .before .before .before .hundreds .ensures, c .match .keys2)
+returns-3 c = rw (c .match .keys2)
 
 returns-4 : tie.Need-returns-4
 unfolding rangeOf
-returns-4 c = rw (c .before .before .hundreds2 .ensures, c .before .before .before .hundreds .ensures, c .match .keys3)
+returns-4 c = rw (c .match .keys3)
 
 returns-5 : tie.Need-returns-5
 unfolding rangeOf
-returns-5 c = rw (c .before .hundreds3 .ensures, c .before .before .hundreds2 .ensures, c .before .before .before .hundreds .ensures, ne-eqb _ 0 (c .match .rest .0 .0 .1), ne-eqb _ 1 (c .match .rest .0 .1), ne-eqb _ 2 (c .match .rest .1))
+returns-5 c = rw (ne-eqb _ 0 (c .match .rest .0 .0 .1), ne-eqb _ 1 (c .match .rest .0 .1), ne-eqb _ 2 (c .match .rest .1))
 
 pub range-by-spec : {M : Type 1} → statement M
-range-by-spec =
-    tie.close
-    (tie.spec
-    returns
-    hundreds-requires
-    hundreds-requires-2
-    hundreds-requires-3
-    returns-2
-    returns-3
-    returns-4
-    returns-5)
+range-by-spec = tie.close (tie.spec returns returns-2 returns-3 returns-4 returns-5)
