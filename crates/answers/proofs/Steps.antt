@@ -1,6 +1,6 @@
 -- Small steps: a number that lay in memory, equal answers, which answer has a text.
 use Prim.Native.Nat.{ℕ, zero, suc}
-use mathlib.Core.Path.{_≡_, refl, sym, ap, _∙_}
+use mathlib.Core.Path.{_≡_, refl, ap, _∙_}
 use mathlib.Core.Bool.{true, false}
 use lib.IntN.{ℤ, pos, negsuc}
 use borrow.Author.Tests.{ne-eqb}
@@ -12,7 +12,7 @@ use Rattle.signs.specs.Signs.{signedOf}
 use Rattle.spelling.specs.declared.Value.the-variants.{Absent, Whole, Decimal, Angle, Date, Text}
 use Rattle.field.specs.declared.FieldRead.{FieldRead}
 use Rattle.field.specs.declared.FieldRead.the-variants as read
-use Rattle.answers.specs.Replies.{reply, doneReply, valueReply, refusedReply, fieldReply, textReply, isText, textAlone}
+use Rattle.answers.specs.Replies.{reply, valueReply, refusedReply, fieldReply, textReply, isText, textAlone}
 
 -- a signed number that lay in memory is itself
 pub back : (z w : ℤ) → SFits w64 z → z ≡ w → toZ w64 (ofZ w64 z) ≡ w

@@ -6,7 +6,7 @@ use native.Mathlib.Omega.{arith}
 use mathlib.Core.Path.{_≡_, refl, sym, ap, _∙_}
 use mathlib.Core.Bool.{Bool, true, false}
 use mathlib.Core.List.{List}
-use Rattle.lists.specs.Count.{count, first}
+use Rattle.lists.specs.Count.{count}
 use Rattle.lists.proofs.Counting.{count-none, count-same, count-run, count-le, none-pass}
 use Rattle.lists.proofs.Finding.{first-unique, first-none, first-below, first-passes}
 use Rattle.forms.specs.Cards.{cardAt, cardsIn}

@@ -7,7 +7,7 @@ use mathlib.Core.Path.{_≡_, refl, sym, ap, ap₂, subst, _∙_}
 use mathlib.Core.Bool.{Bool, true, false, true≢false}
 use mathlib.Core.List.{List}
 use lib.ListN.{getD}
-use Rattle.lists.specs.Count.{bit, count, first}
+use Rattle.lists.specs.Count.{bit, count}
 use Rattle.lists.proofs.Counting.{count-more}
 use Rattle.lists.proofs.Finding.{first-unique, first-none}
 use Rattle.forms.specs.Cards.{layoutOf}

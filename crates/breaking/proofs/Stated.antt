@@ -8,7 +8,6 @@ use mathlib.Core.List.{List, [], _∷_}
 use lib.Dec.{eqb}
 use lib.ListN.{length, getD, take, List·getD-eq-default}
 use borrow.Author.Tests.{eq-eqb, ne-eqb}
-use Rattle.lists.specs.Count.{count}
 use Rattle.lists.specs.Parts.{alike}
 use Rattle.lists.proofs.Counting.{count-none}
 use Rattle.text.specs.Texts.{printable}

@@ -7,7 +7,7 @@ use lib.ListN.{take}
 use Rattle.lists.specs.Count.{count, first}
 use Rattle.lists.specs.Parts.{alike}
 use Rattle.forms.specs.Cards.{cardAt, cardsIn, layoutOf}
-use Rattle.keys.specs.Roles.{defines, H00X9, H0101}
+use Rattle.keys.specs.Roles.{defines, H0101}
 use Rattle.keys.specs.Keys.{classAt, keyAt, holdsKey, definesKey, vesselOf, contradict}
 
 -- the places of a header, 80 to a card, numbered from 0: the card, from 0, and the column, from 1

@@ -1,7 +1,7 @@
 -- The five kinds of broken tie, and the list of all of them: by card, column, kind.
 use Prim.Native.Nat.{ℕ, _+_, _*_, _/_, _%_}
 use mathlib.Core.List.{List, [], _∷_, _++_}
-use mathlib.Core.Bool.{Bool, true, false, cond, _&&_, _||_, not}
+use mathlib.Core.Bool.{Bool, cond, _&&_, _||_, not}
 use lib.Dec.{eqb, ltb}
 use Rattle.lists.specs.Parts.{alike, kept, upTo}
 use Rattle.forms.specs.Cards.{cardAt, cardsIn, layoutOf}

@@ -1,18 +1,17 @@
 -- The walk from field to field, one field at a time.
-use Prim.Native.Nat.{ℕ, zero, suc, _+_, _-_, _≤_, _<_}
+use Prim.Native.Nat.{ℕ, _+_, _-_, _≤_, _<_}
 use native.Mathlib.Omega.{arith}
 use native.Mathlib.Numerals.{add-one}
 use mathlib.Core.Path.{_≡_, refl, sym, ap, ap₂, subst, _∙_}
 use mathlib.Core.List.{List, [], _∷_}
-use mathlib.Core.Bool.{Bool, true, false, cond, _&&_}
+use mathlib.Core.Bool.{cond}
 use lib.ListN.{length, getD, drop, drop-of-length-le}
 use lib.Seq.{drop-cons}
-use lib.Dec.{T, leb, ltb}
-use borrow.Author.Tests.{le-leb, lt-ltb, le-ltb}
+use lib.Dec.{T, ltb}
+use borrow.Author.Tests.{lt-ltb, le-ltb}
 use Rattle.lists.specs.Count.{firstFrom}
 use Rattle.layout.specs.declared.Field.{Field}
-use Rattle.layout.specs.declared.Found.{Found}
-use Rattle.layout.specs.declared.Found.the-variants.{Is, Nothing}
+use Rattle.layout.specs.declared.Found.the-variants.{Is}
 use Rattle.layout.specs.Layouts.{fieldsOf, labelOf, layoutAt, fieldOf, noField}
 use Rattle.layout.proofs.Columns.{inOrder, ordered, all-ordered, of-layout, Lies, front, rest}
 use Rattle.layout.proofs.Places.{has-fields}

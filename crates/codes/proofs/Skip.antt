@@ -1,5 +1,5 @@
 -- The patterns that a walk may leave out: they take only codes below the one at hand, or begin with a higher byte.
-use mathlib.Core.Path.{_≡_, refl, sym, _∙_, ap}
+use mathlib.Core.Path.{_≡_}
 use mathlib.Core.Bool.{Bool, true, false, _||_}
 use mathlib.Core.List.{List, [], _∷_}
 use Prim.Native.Nat.{ℕ, zero, suc, _+_, _*_, _<_, _≤_, suc-le-suc}
@@ -12,7 +12,7 @@ use Rattle.layout.specs.Table.{layouts, passedCodes}
 use Rattle.codes.specs.Codes.{fitsAt, fits, codes, placeIn, patternCount}
 use Rattle.layout.specs.Packed.{headOf, wordOf}
 use Rattle.codes.proofs.Places.{codes-count}
-use Rattle.codes.proofs.Apart.{least, most, between, Fits, in-each, decide, either}
+use Rattle.codes.proofs.Apart.{least, most, between, in-each, decide, either}
 
 -- a walk from a pattern before which none fits
 skip : (ps : List (List ℕ)) (s : List ℕ) (k : ℕ) → k ≤ length ps → ((i : ℕ) → i < k → fits (getD ps i []) s ≡ false)

@@ -1,7 +1,7 @@
 -- The patterns as numbers: which one a `match` picks, and that a code fits the number exactly when it fits the pattern.
-use mathlib.Core.Path.{_≡_, refl, sym, _∙_, ap, ap₂}
+use mathlib.Core.Path.{_≡_, refl, sym, _∙_, ap}
 use mathlib.Core.Bool.{Bool, true, false, cond, not, _&&_}
-use mathlib.Core.List.{List, [], _∷_, map}
+use mathlib.Core.List.{List, [], map}
 use Prim.Native.Nat.{ℕ, _+_, _*_, _/_, _%_, _<_, _≤_}
 use native.Mathlib.Omega.{arith}
 use native.Mathlib.Decide.{ℕ-discrete, decLt}
@@ -14,7 +14,7 @@ use Rattle.layout.proofs.Lines.{Others, above}
 use Rattle.layout.specs.Layouts.{layoutAt}
 use Rattle.layout.specs.Packed.{layoutCount, headOf, wordOf, rowOf}
 use Rattle.layout.proofs.Places.{empty, layouts-count}
-use Rattle.codes.specs.Codes.{byteFits, fitsAt, fits, codes, passedCount, patternCount}
+use Rattle.codes.specs.Codes.{byteFits, fitsAt, fits, codes, passedCount}
 use Rattle.codes.specs.Words.{passedOf, fitsWord}
 use Rattle.codes.proofs.Places.{codes-count, passed-count, codeIn, code-is}
 

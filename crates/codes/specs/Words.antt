@@ -1,7 +1,7 @@
 -- How the code holds the passed codes: five bytes as one number. No promise to a caller cites this.
 use Prim.Native.Nat.{ℕ, _/_, _%_}
 use mathlib.Core.Bool.{Bool, _&&_}
-use mathlib.Core.List.{List, map}
+use mathlib.Core.List.{map}
 use lib.Dec.{eqb}
 use lib.ListN.{getD}
 use Rattle.layout.specs.Table.{passedCodes}

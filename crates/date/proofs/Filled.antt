@@ -1,14 +1,14 @@
 -- Digits that fill their columns: only they make their number.
-use Prim.Native.Nat.{ℕ, suc, _+_, _-_, _*_, _/_, _%_, _<_, _≤_}
+use Prim.Native.Nat.{ℕ, suc, _+_, _-_, _*_, _/_, _%_, _≤_}
 use native.Mathlib.Omega.{arith}
 use native.Mathlib.Nat.{add-zero, add-suc, suc-add}
-use mathlib.Core.Path.{_≡_, refl, sym, ap, ap₂, _∙_}
+use mathlib.Core.Path.{_≡_, sym, ap, ap₂, _∙_}
 use mathlib.Core.List.{List, [], _∷_, _++_, append-assoc, append-nil}
-use mathlib.Core.Bool.{Bool, true, false, cond}
+use mathlib.Core.Bool.{true}
 use lib.ListN.{length}
 use lib.Dec.{leb}
-use borrow.Author.Tests.{ne-eqb, leb-true}
-use Rattle.digits.specs.Figures.{isDigit, blanks, leading, valueFrom}
+use borrow.Author.Tests.{leb-true}
+use Rattle.digits.specs.Figures.{isDigit, leading, valueFrom}
 use Rattle.digits.specs.Digits.{digits}
 use Rattle.digits.proofs.Bools.{and-left, and-right}
 use Rattle.digits.proofs.Numbers.{digits-alone, first-digit}

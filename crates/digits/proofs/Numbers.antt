@@ -1,17 +1,15 @@
 -- What digits that were written are worth when they are read, and how large a number of so many digits can be.
 use Prim.Native.Nat.{ℕ, zero, suc, _+_, _-_, _*_, _/_, _%_, _^_, _≤_, _<_, suc-le-suc}
 use native.Mathlib.Omega.{arith}
-use native.Mathlib.Numerals.{add-one}
-use native.Mathlib.Nat.{pow-suc, pow-succ', mod-lt, zero-mul, zero-add, add-zero, add-suc, mul-assoc, mul-comm, div-div-eq-div-mul, pow-le-pow-right, mod-eq-of-lt, mod-one, mul-one, add-assoc, div-one, lt-of-lt-of-le, mul-le-mul-right}
-use mathlib.Core.Path.{_≡_, refl, sym, ap, ap₂, subst, _∙_}
+use native.Mathlib.Nat.{pow-suc, pow-succ', mod-lt, add-zero, add-suc, mul-assoc, div-div-eq-div-mul, div-one, lt-of-lt-of-le, mul-le-mul-right}
+use mathlib.Core.Path.{_≡_, refl, sym, ap, _∙_}
 use mathlib.Core.List.{List, [], _∷_, _++_, append-assoc, append-nil}
-use mathlib.Core.Bool.{Bool, true, false, cond, _&&_}
+use mathlib.Core.Bool.{Bool, true, false, cond}
 use lib.ListN.{length}
 use lib.Dec.{leb, ltb, lit<}
 use lib.Arith.{mod-mul}
-use lib.Pow.{pow-add}
 use borrow.Author.Tests.{ne-eqb, leb-true, ltb-true, ltb-false}
-use Rattle.digits.specs.Figures.{isDigit, blanks, unpadded, leading, behind, valueFrom}
+use Rattle.digits.specs.Figures.{isDigit, blanks, leading, valueFrom}
 use Rattle.digits.specs.Digits.{digits, sizeUpTo}
 use Rattle.digits.proofs.Bools.{and-left, and-right}
 use Rattle.digits.proofs.Spell.{two-more, tenth}

@@ -1,9 +1,9 @@
 -- How digits are read: the digits at the front of some columns, and the number that they make.
-use Prim.Native.Nat.{ℕ, zero, suc, _+_, _-_, _*_, min, _^_}
-use mathlib.Core.List.{List, [], _∷_, _++_}
-use mathlib.Core.Bool.{Bool, true, false, cond, _&&_, not}
+use Prim.Native.Nat.{ℕ, suc, _+_, _-_, _*_, min}
+use mathlib.Core.List.{List, [], _∷_}
+use mathlib.Core.Bool.{Bool, cond, _&&_}
 use lib.ListN.{length, drop}
-use lib.Dec.{eqb, leb, ltb}
+use lib.Dec.{eqb, leb}
 use Rattle.digits.specs.declared.Run.{Run}
 
 -- the bytes 48 to 57 are the digits 0 to 9

@@ -1,12 +1,12 @@
 -- What was put into a field of a card is what reading that field says.
-use Prim.Native.Nat.{ℕ, _+_, _-_, _≤_, _<_}
+use Prim.Native.Nat.{ℕ, _-_, _≤_}
 use native.Mathlib.Omega.{arith}
-use mathlib.Core.Path.{_≡_, refl, sym, ap, subst, _∙_}
-use mathlib.Core.List.{List, [], _∷_, _++_}
-use mathlib.Core.Bool.{Bool, true, false, cond, _&&_, not, true≢false, false≢true}
-use lib.ListN.{length, take, drop, length-drop}
+use mathlib.Core.Path.{_≡_, refl, sym, ap, _∙_}
+use mathlib.Core.List.{List, [], _++_}
+use mathlib.Core.Bool.{Bool, true, false, cond, true≢false}
+use lib.ListN.{length, take, drop}
 use lib.Seq.{length-take-le, take-append-le, take-take, drop-at, take-at}
-use lib.Dec.{eqb, ltb}
+use lib.Dec.{eqb}
 use borrow.Rule.Slice.PartMut.{same-len-mid}
 use Rattle.digits.specs.Columns.{agreed}
 use Rattle.text.specs.Texts.{textOf, printable}

@@ -1,25 +1,21 @@
 -- An entry changes no column outside its field, and a refused one changes none.
-use Prim.Native.Nat.{ℕ, _+_, _-_, _≤_}
+use Prim.Native.Nat.{ℕ, _-_, _≤_}
 use native.Mathlib.Omega.{arith}
-use mathlib.Core.Path.{_≡_, refl, sym, ap, subst, _∙_}
-use mathlib.Core.List.{List, [], _∷_, _++_, append-assoc}
+use mathlib.Core.Path.{_≡_, refl, sym, subst, _∙_}
+use mathlib.Core.List.{List}
 use mathlib.Core.Bool.{Bool, true, false, cond, _&&_}
 use lib.ListN.{length, take, drop}
-use borrow.Rule.Slice.PartMut.{putMid, same-len-mid, take-put, drop-put}
-use Rattle.digits.specs.declared.Written.{Written}
+use borrow.Rule.Slice.PartMut.{same-len-mid, take-put, drop-put}
 use Rattle.digits.specs.declared.Written.the-variants as written
 use Rattle.digits.specs.Columns.{Entry, agreed, refused}
 use Rattle.spelling.specs.declared.Value.{Value}
 use Rattle.writing.specs.Writing.{entryOf, textEntryOf}
-use Rattle.spelling.proofs.Absence.{zero-one}
 use Rattle.writing.proofs.Back.{value-back, text-read-back}
 use Rattle.layout.specs.declared.Field.{Field}
-use Rattle.seeking.specs.declared.Refusal.{Refusal}
-use Rattle.seeking.specs.declared.Sought.{Sought}
 use Rattle.seeking.specs.declared.Sought.the-variants as sought
 use Rattle.seeking.specs.Card.{refusal, soughtOf}
 use Rattle.judging.specs.Fields.{spellingOf}
-use Rattle.entry.specs.Putting.{Putting, placed, stays, leftBy, width, placedIn, isAbsent, within, neededAfter, isOther, cameOf, byEntry, valuePut, puttingOf, puttingTextOf}
+use Rattle.entry.specs.Putting.{Putting, stays, leftBy, width, placedIn, isAbsent, within, neededAfter, isOther, cameOf, byEntry, valuePut, puttingOf, puttingTextOf}
 use Rattle.entry.proofs.Steps.{value-is, text-is, field-fits, columns-wide}
 
 -- the columns before a field and behind it are the same on two cards, and so is their number

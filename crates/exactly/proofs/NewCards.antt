@@ -1,13 +1,12 @@
 -- What stands on a card that was opened: 80 columns, its code, and its label.
-use Prim.Native.Nat.{ℕ, _+_, _-_, _≤_, _<_}
+use Prim.Native.Nat.{ℕ, _-_, _≤_}
 use native.Mathlib.Omega.{arith}
-use mathlib.Core.Path.{_≡_, refl, sym, ap, _∙_}
-use mathlib.Core.List.{List, [], _∷_, _++_}
-use mathlib.Core.Bool.{Bool, true}
+use mathlib.Core.Path.{_≡_, sym, ap, _∙_}
+use mathlib.Core.List.{List, _++_}
+use mathlib.Core.Bool.{true}
 use lib.ListN.{length, take, drop, length-append, replicate}
 use lib.Seq.{take-append-seam, drop-append-seam}
 use Rattle.lists.proofs.Comparing.{equal-alike}
-use Rattle.codes.specs.declared.Code.{Code}
 use Rattle.codes.specs.declared.Code.the-variants as code
 use Rattle.codes.specs.Codes.{codeOf}
 use Rattle.layout.specs.Layouts.{labelOf}

@@ -1,22 +1,20 @@
 -- One column more, one card more.
-use Prim.Native.Nat.{ℕ, zero, suc, _+_, _-_, _≤_, _<_}
+use Prim.Native.Nat.{ℕ, zero, suc, _+_, _≤_, _<_}
 use native.Mathlib.Numerals.{add-one}
 use native.Mathlib.Decide.{decLt}
 use native.Mathlib.Omega.{arith}
 use mathlib.Core.Path.{_≡_, refl, sym, ap, _∙_}
-use mathlib.Core.Bool.{Bool, true, false}
-use mathlib.Core.List.{List, [], _∷_, _++_, map, flatMap, append-nil, List·Memᴰ, List·Memᴰ·head, List·Memᴰ·tail}
+use mathlib.Core.List.{List, [], _∷_, _++_, flatMap, append-nil, List·Memᴰ, List·Memᴰ·head, List·Memᴰ·tail}
 use lib.ListN.{length, getD, length-append}
-use Rattle.lists.specs.Parts.{keep, kept, upTo}
+use Rattle.lists.specs.Parts.{kept, upTo}
 use Rattle.lists.proofs.Keeping.{out-of-kept, out-of-upTo}
 use Rattle.lists.proofs.Entries.{entries-more}
 use Rattle.forms.specs.Cards.{cardAt, layoutOf}
 use Rattle.tying.specs.Columns.{canTie, tieColumns}
-use Rattle.broken.specs.Faults.{brokenOn, broken}
 use Rattle.entries.specs.declared.Broken.{Broken}
 use Rattle.breaking.specs.Kinds.{brokenFor}
 use Rattle.entries.specs.Stored.{storedAll, entriesFor}
-use Rattle.faults.specs.Listed.{columnEntries, slotEntries}
+use Rattle.faults.specs.Listed.{slotEntries}
 use Rattle.faults.proofs.Columns.{of-column}
 use Rattle.entries.proofs.Stored.{stored-append}
 

@@ -14,11 +14,10 @@ use lib.Seq.{getD-take}
 use Rattle.codes.specs.declared.Code.{Code}
 use Rattle.codes.specs.declared.Code.the-variants.{Read, Passed, Unknown}
 use Rattle.layout.specs.Shape.{bytes}
-use Rattle.layout.specs.Table.{layouts, passedCodes}
+use Rattle.layout.specs.Table.{layouts}
 use Rattle.codes.specs.Codes.{byteFits, fitsAt, fits, codes, placeIn, codeAt, codeOf}
 use Rattle.layout.specs.Layouts.{layoutAt}
 use Rattle.layout.specs.Packed.{layoutCount}
-use Rattle.layout.proofs.Places.{layouts-count}
 use Rattle.codes.proofs.Places.{codes-count, code-is}
 use Rattle.codes.proofs.Apart.{read-as, in-each}
 use Rattle.forms.specs.Cards.{numberOf, layoutOf, lineCard, waypointCard, gridCard, pointCard}

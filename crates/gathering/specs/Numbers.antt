@@ -2,7 +2,7 @@
 use Prim.Native.Nat.{ℕ, _+_, _*_, _-_, _/_, _%_}
 use mathlib.Core.List.{List}
 use mathlib.Core.Bool.{Bool, cond, _&&_}
-use lib.Dec.{eqb, leb, ltb}
+use lib.Dec.{leb, ltb}
 use Rattle.lists.specs.Count.{count}
 use Rattle.forms.specs.Cards.{cardAt, layoutOf}
 use Rattle.packing.specs.Packing.{room}

@@ -1,6 +1,6 @@
 // Standard input, read to its end or until a lent buffer is full; a read that fails is told.
 use libc::STDIN_FILENO;
-ghost use Prim.Native.Nat.{_+_, _≤_};
+ghost use Prim.Native.Nat.{_≤_};
 ghost use lib.ListN.{length};
 ghost use Rattle.intake.specs.Sizes.{Brings, sizeOf};
 

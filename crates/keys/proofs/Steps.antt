@@ -1,15 +1,14 @@
 -- What each way through the functions that read a card answers.
-use Prim.Native.Nat.{ℕ, zero, suc, _+_, _-_, _/_, _%_, _≤_, _<_}
+use Prim.Native.Nat.{ℕ, suc, _+_, _-_, _/_, _%_, _≤_, _<_}
 use native.Mathlib.Omega.{arith}
-use native.Mathlib.Numerals.{add-one}
 use mathlib.Core.Path.{_≡_, refl, sym, ap, _∙_}
 use mathlib.Core.List.{List, [], _∷_}
-use mathlib.Core.Bool.{Bool, true, false, cond}
-use lib.Dec.{eqb, ltb}
+use mathlib.Core.Bool.{Bool, true, false}
+use lib.Dec.{eqb}
 use lib.IntN.{ℤ, pos, negsuc}
 use lib.ListN.{length, getD, take, drop, drop-of-length-le, length-drop}
 use lib.Seq.{take-nil, take-all}
-use borrow.Author.Tests.{ne-eqb, eqb-true, lt-ltb, le-ltb}
+use borrow.Author.Tests.{ne-eqb, eqb-true}
 use Rattle.digits.proofs.Parts.{rest-part}
 use Rattle.text.specs.Texts.{textOf}
 use Rattle.number.specs.declared.Number.{Number}
@@ -25,7 +24,7 @@ use Rattle.packing.specs.Packing.{isWhole, packed, wholeOffered}
 use Rattle.packing.proofs.Steps.{none-packed, offered-none, offered-whole}
 use Rattle.keys.specs.Roles.{Source, digit, whole, serial, waypoint, only, nothing, hasVessel}
 use Rattle.keys.specs.Keys.{isNone, between, wholeKey, wholeIn, paired, keyIn}
-use Rattle.keys.specs.Lines.{classIn, sourceBy, sourceIn, ofKind, vesselBy, marked, markOf, unmarked}
+use Rattle.keys.specs.Lines.{sourceBy, sourceIn, ofKind, vesselBy, marked, markOf, unmarked}
 
 -- columns of a card, from being the one before the first
 module _ (s : List ℕ) (first last from : ℕ) (is : from ≡ first - 1) where

@@ -14,7 +14,7 @@ use Rattle.spelling.specs.declared.Reading.the-variants.{Held, Malformed, OutOf
 use Rattle.spelling.specs.declared.Spelling.the-variants as spelled
 use Rattle.spelling.specs.Reading.{readingOf}
 use Rattle.forms.specs.Cards.{byteIn, layoutOf}
-use Rattle.keys.specs.Roles.{Source, digit, whole, serial, waypoint, only, nothing, Role, defines, refers, Tie, lineFor, hasVessel}
+use Rattle.keys.specs.Roles.{Source, digit, whole, serial, waypoint, only, nothing, Role, defines, lineFor, hasVessel}
 
 -- there is no key
 unfoldable pub isNone : List ℕ → Bool

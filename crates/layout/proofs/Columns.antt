@@ -1,7 +1,6 @@
 -- The columns of the table: fields in order, apart, on the card after the label, as wide as their kind asks.
-use mathlib.Core.Path.{_≡_, refl}
-use mathlib.Core.Bool.{Bool, true, false, _&&_}
-use mathlib.Core.List.{List, [], _∷_, map}
+use mathlib.Core.Bool.{Bool, true, _&&_}
+use mathlib.Core.List.{List, [], _∷_}
 use Prim.Native.Nat.{ℕ, zero, suc, _+_, _-_, _<_, _≤_}
 use native.Mathlib.Nat.{le-of-suc-le-suc, not-suc-le-zero}
 use native.Mathlib.Omega.{arith}
@@ -10,7 +9,6 @@ use lib.ListN.{length, getD}
 use Rattle.layout.specs.declared.Kind.{Kind}
 use Rattle.layout.specs.declared.Kind.the-variants.{Text, Comment, Whole, Decimal, Date, Latitude, Longitude}
 use Rattle.layout.specs.declared.Range.{Range}
-use Rattle.layout.specs.declared.Range.the-variants.{Any, AtLeast, Between, OneOf}
 use Rattle.layout.specs.declared.Field.{Field}
 use Rattle.layout.specs.Shape.{Layout}
 use Rattle.layout.specs.Table.{layouts}

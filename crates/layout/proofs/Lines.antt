@@ -6,7 +6,6 @@ use native.Mathlib.Nat.{le-of-suc-le-suc, not-suc-le-zero}
 use native.Mathlib.Omega.{arith}
 use native.Mathlib.Decide.{decLt}
 use borrow.Author.Tests.{ne-eqb, le-leb, lt-leb}
-use lib.Dec.{T, leb, leb→le}
 use lib.ListN.{length, getD, List·getD-map, List·getD-eq-default, length-map}
 use Rattle.layout.specs.declared.Field.{Field}
 use Rattle.layout.specs.declared.Found.{Found}

@@ -1,5 +1,5 @@
 -- What is known of a field that was found by its number.
-use mathlib.Core.Path.{_≡_, refl, sym, _∙_, ap, subst}
+use mathlib.Core.Path.{_≡_, refl, sym, _∙_, subst}
 use mathlib.Core.Bool.{Bool, true, false, cond, _&&_}
 use Prim.Native.Nat.{ℕ, _+_, _-_, _<_, _≤_}
 use native.Mathlib.Omega.{arith}
@@ -7,7 +7,6 @@ use borrow.Author.Tests.{leb-true, le-leb}
 use lib.Dec.{T, leb}
 use lib.ListN.{length, getD}
 use Rattle.layout.specs.declared.Field.{Field}
-use Rattle.layout.specs.declared.Found.{Found}
 use Rattle.layout.specs.declared.Found.the-variants.{Is, Nothing}
 use Rattle.layout.specs.Layouts.{fieldsOf, labelOf, fieldOf, noField}
 use Rattle.layout.proofs.Columns.{Lies, after-label, ends-before, width, wideAs, wide, ranged, whole-only}

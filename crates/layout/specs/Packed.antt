@@ -1,7 +1,7 @@
 -- How the code holds the table: a code's bytes as one number, and a field as one whose hexadecimal digits are its parts.
 use Prim.Native.Nat.{ℕ, _+_, _-_, _*_, _/_, _%_}
 use mathlib.Core.Bool.{Bool, true, false, cond}
-use mathlib.Core.List.{List, [], _∷_, _++_, map}
+use mathlib.Core.List.{List, _∷_, _++_, map}
 use lib.Dec.{eqb}
 use lib.ListN.{length, getD, replicate}
 use Rattle.layout.specs.declared.Kind.{Kind}

@@ -1,13 +1,13 @@
 -- The words in which the layout table is written: codes and labels as texts, a field by its kind and columns, a second set.
 use Prim.Native.Nat.{ℕ, zero, suc, _+_}
-use Prim.Native.Char.{Char, code}
+use Prim.Native.Char.{code}
 use Prim.Native.String.{String, [] as ε, _∷_ as _▸_}
 use mathlib.Core.Bool.{Bool, true, false}
 use mathlib.Core.List.{List, [], _∷_, map}
 use Rattle.layout.specs.declared.Kind.{Kind}
 use Rattle.layout.specs.declared.Kind.the-variants.{Text, Comment, Whole, Decimal, Date, Latitude, Longitude}
 use Rattle.layout.specs.declared.Range.{Range}
-use Rattle.layout.specs.declared.Range.the-variants.{Any, AtLeast, Between, OneOf}
+use Rattle.layout.specs.declared.Range.the-variants.{Any, Between}
 use Rattle.layout.specs.declared.Field.{Field}
 
 -- the bytes of a text

@@ -1,6 +1,6 @@
 -- What stores one after the other leave in a buffer, in room or past its end.
-use Prim.Native.Nat.{ℕ, zero, suc, _+_, _*_, _/_, _≤_, _<_, min}
-use native.Mathlib.Nat.{add-zero, add-suc, suc-add, zero-add}
+use Prim.Native.Nat.{ℕ, suc, _+_, _*_, _/_, _≤_, _<_, min}
+use native.Mathlib.Nat.{add-zero, zero-add}
 use native.Mathlib.Numerals.{add-one}
 use native.Mathlib.Decide.{decLe}
 use native.Mathlib.Omega.{arith}
@@ -8,7 +8,7 @@ use mathlib.Core.Path.{_≡_, refl, sym, ap, _∙_}
 use mathlib.Core.List.{List, [], _∷_, _++_}
 use lib.ListN.{length, getD, take, drop, set, drop-of-length-le, length-append}
 use lib.Seq.{take-all, take-length, drop-length, sets, drop-cons, drop-nil, take-at, length-take-le, length-front}
-use Rattle.digits.specs.Digits.{digits, size, sizeUpTo}
+use Rattle.digits.specs.Digits.{digits, size}
 use Rattle.digits.proofs.Spell.{digits-length}
 use Rattle.digits.proofs.Numbers.{size-le}
 use Rattle.lists.specs.Laid.{laid, fitting}

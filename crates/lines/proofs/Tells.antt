@@ -4,11 +4,11 @@ use native.Mathlib.Nat.{mod-eq-of-lt}
 use native.Mathlib.Omega.{arith}
 use native.Mathlib.Decide.{decLt}
 use mathlib.Core.Path.{_≡_, refl, sym, ap, _∙_}
-use mathlib.Core.Bool.{Bool, true, false, cond}
+use mathlib.Core.Bool.{false}
 use mathlib.Core.List.{List, [], _∷_, _++_, append-assoc, append-nil}
 use lib.ListN.{length, getD, drop}
 use lib.Seq.{drop-append-seam}
-use Rattle.digits.specs.Digits.{digits, size, sizeUpTo}
+use Rattle.digits.specs.Digits.{digits, size}
 use Rattle.digits.specs.Figures.{isDigit, leading, valueFrom}
 use Rattle.digits.proofs.Numbers.{digits-lead, digits-value, size-enough}
 use Rattle.lines.specs.Text.{numeral, spaced, refusedText, countText, entryText, entryAt, entriesText, told, brokenText}

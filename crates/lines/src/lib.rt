@@ -1,6 +1,5 @@
 // The answer to the crew as text: refused and where, or how much is broken and each entry, a line each.
 ghost use mathlib.Core.Path.{_≡_};
-ghost use mathlib.Core.List.{[], _∷_, _++_};
 ghost use Prim.Native.Nat.{_+_, _*_, _≤_, _<_, min};
 ghost use lib.ListN.{length, set};
 ghost use lib.Seq.{sets};

@@ -1,5 +1,5 @@
 -- What each way through the reading of a number finds.
-use Prim.Native.Nat.{ℕ, zero, suc, _+_, _-_, _≤_, _<_}
+use Prim.Native.Nat.{ℕ, _+_, _≤_, _<_}
 use native.Mathlib.Omega.{arith}
 use native.Mathlib.Decide.{ℕ-discrete}
 use native.Mathlib.Numerals.{add-one}
@@ -17,10 +17,9 @@ use Rattle.digits.specs.Figures.{blanks, unpadded, leading, behind, valueFrom, 
 use Rattle.digits.proofs.Walk.{cap-early, value-append, all-leading}
 use Rattle.number.specs.declared.Figures.{Figures}
 use Rattle.number.specs.declared.Figures.the-variants.{Units, Not}
-use Rattle.number.specs.declared.Decimal.{Decimal}
 use Rattle.number.specs.declared.Number.{Number}
 use Rattle.number.specs.declared.Number.the-variants.{Absent, Held, Malformed, OutOfRange}
-use Rattle.number.specs.Reading.{allDigits, countedOf, unitsOf, pointOf, figuresOf, heldOf, signOf, signAt, numberOf}
+use Rattle.number.specs.Reading.{countedOf, unitsOf, pointOf, figuresOf, heldOf, signOf, signAt, numberOf}
 use Rattle.signs.specs.Signs.{signedOf}
 
 -- nothing stands behind the digits

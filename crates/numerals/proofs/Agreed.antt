@@ -12,7 +12,7 @@ use lib.Pow.{pow-add}
 use lib.IntN.{natAbs}
 use borrow.Author.Tests.{eqb-true, eqb-false, lt-ltb, ltb-true}
 use Rattle.digits.specs.Figures.{blanks, unpadded, leading, behind, valueFrom, limit, capped}
-use Rattle.digits.specs.Digits.{digits, size}
+use Rattle.digits.specs.Digits.{size}
 use Rattle.digits.specs.Columns.{orElse}
 use Rattle.digits.proofs.Bools.{and-right}
 use Rattle.digits.proofs.Walk.{value-append, leading-take, all-leading}

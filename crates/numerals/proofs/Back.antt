@@ -1,30 +1,28 @@
 -- What was written reads back as the same number, for every width.
-use Prim.Native.Nat.{ℕ, zero, suc, _+_, _-_, _*_, _/_, _%_, _^_, _≤_, _<_, max}
+use Prim.Native.Nat.{ℕ, zero, suc, _+_, _-_, _/_, _%_, _^_, _≤_, _<_, max}
 use native.Mathlib.Omega.{arith}
 use native.Mathlib.Nat.{zero-mul, zero-add, add-zero, mod-eq-of-lt, pow-le-pow-right, lt-of-lt-of-le}
-use mathlib.Core.Path.{_≡_, refl, sym, ap, ap₂, subst, _∙_}
-use mathlib.Core.List.{List, [], _∷_, _++_, append-nil, append-assoc}
-use mathlib.Core.Bool.{Bool, true, false, cond, _&&_, false≢true, true≢false}
+use mathlib.Core.Path.{_≡_, refl, sym, ap, ap₂, _∙_}
+use mathlib.Core.List.{List, [], _∷_, _++_, append-nil}
+use mathlib.Core.Bool.{Bool, true, false, cond}
 use mathlib.Core.Option.{Option, none, some}
 use lib.ListN.{length, drop, replicate, length-append, length-replicate}
 use lib.Seq.{drop-append-seam}
 use lib.Dec.{eqb, leb, ltb}
-use lib.IntN.{ℤ, pos, negsuc, negℤ, natAbs}
+use lib.IntN.{ℤ, pos, negsuc, natAbs}
 use borrow.Author.Tests.{eq-eqb, ne-eqb, lt-ltb, ltb-true, leb-true}
-use Rattle.digits.specs.Figures.{isDigit, blanks, unpadded, leading, behind, valueFrom, limit, capped}
-use Rattle.digits.specs.Digits.{digits, size, sizeUpTo}
+use Rattle.digits.specs.Figures.{blanks, unpadded, leading, behind, valueFrom, limit, capped}
+use Rattle.digits.specs.Digits.{digits, size}
 use Rattle.digits.specs.Columns.{rightAdjusted, orElse}
 use Rattle.digits.proofs.Spell.{digits-length}
 use Rattle.digits.proofs.Numbers.{digits-lead, digits-alone, digits-value, digits-split, size-enough, size-some}
 use Rattle.number.specs.declared.Decimal.{Decimal}
-use Rattle.number.specs.declared.Figures.{Figures}
-use Rattle.number.specs.declared.Figures.the-variants.{Units, Not}
-use Rattle.number.specs.declared.Number.{Number}
-use Rattle.number.specs.declared.Number.the-variants.{Absent, Held, Malformed, OutOfRange}
-use Rattle.number.specs.Reading.{countedOf, unitsOf, pointOf, figuresOf, heldOf, signOf, numberOf}
+use Rattle.number.specs.declared.Figures.the-variants.{Units}
+use Rattle.number.specs.declared.Number.the-variants.{Held}
+use Rattle.number.specs.Reading.{countedOf, pointOf, figuresOf, heldOf, signOf, numberOf}
 use Rattle.signs.specs.Signs.{signedOf}
 use Rattle.signs.specs.Signs.{isMinus}
-use Rattle.numerals.specs.Spelling.{sign, signColumns, pointed, plain, spelled, unitsIn, decimalIn}
+use Rattle.numerals.specs.Spelling.{sign, pointed, plain, spelled, unitsIn, decimalIn}
 
 -- written digits, and what stands behind them
 lead : (k n : ℕ) (r : List ℕ) → leading r ≡ [] → leading (digits k n ++ r) ≡ digits k n

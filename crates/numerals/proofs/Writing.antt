@@ -1,12 +1,12 @@
 -- What each step of writing a number leaves in the columns.
-use Prim.Native.Nat.{ℕ, zero, suc, _+_, _-_, _*_, _/_, _^_, _≤_, _<_, max}
+use Prim.Native.Nat.{ℕ, zero, suc, _+_, _-_, _/_, _^_, _≤_, _<_, max}
 use native.Mathlib.Omega.{arith}
 use native.Mathlib.Numerals.{add-one, one-add}
 use mathlib.Core.Path.{_≡_, refl, sym, ap, ap₂, _∙_}
 use mathlib.Core.Option.{Option, none, some}
 use native.Mathlib.Nat.{sub-zero, zero-add, add-zero}
 use borrow.Author.Tests.{le-leb, lt-leb, le-ltb, lt-ltb}
-use mathlib.Core.List.{List, [], _∷_, _++_, append-nil}
+use mathlib.Core.List.{List, [], _∷_, _++_}
 use mathlib.Core.Bool.{Bool, true, false}
 use lib.ListN.{length, take, drop, set, getD, replicate, length-set, length-append, length-replicate, drop-of-length-le}
 use lib.Seq.{length-take-le, take-at, drop-at, length-front, drop-cons, set-at}

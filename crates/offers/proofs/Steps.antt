@@ -1,13 +1,12 @@
 -- What each way through an offer finds.
 use Prim.Native.Nat.{ℕ}
-use mathlib.Core.Path.{_≡_, refl, sym, ap, _∙_}
+use mathlib.Core.Path.{_≡_, refl, ap, _∙_}
 use mathlib.Core.Bool.{true, false}
 use mathlib.Core.List.{List}
 use lib.IntN.{ℤ, natAbs}
 use borrow.Author.Tests.{eq-eqb, ne-eqb}
 use Rattle.signs.specs.Signs.{isMinus}
-use Rattle.spelling.specs.declared.Value.{Value}
-use Rattle.spelling.specs.declared.Value.the-variants.{Absent, Whole, Decimal, Angle, Date, Text}
+use Rattle.spelling.specs.declared.Value.the-variants.{Whole, Decimal, Angle, Date, Text}
 use Rattle.questions.specs.declared.Key.{Key}
 use Rattle.questions.specs.declared.Key.the-variants as key
 use Rattle.offers.specs.Offers.{partOf, yearOf, offeredOf, keyOf}

@@ -1,7 +1,7 @@
 -- What opening a card answers, and what the card then holds.
-use Prim.Native.Nat.{ℕ, _+_, _-_}
+use Prim.Native.Nat.{ℕ, _-_}
 use mathlib.Core.List.{List, [], _++_}
-use mathlib.Core.Bool.{Bool, true, false, cond, not}
+use mathlib.Core.Bool.{cond, not}
 use lib.ListN.{length, replicate}
 use lib.Dec.{eqb}
 use Rattle.codes.specs.declared.Code.{Code}

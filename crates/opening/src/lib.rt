@@ -3,7 +3,7 @@ use codes::Code;
 use seeking::Refusal;
 ghost use mathlib.Core.Path.{_≡_};
 ghost use mathlib.Core.List.{_++_, []};
-ghost use Prim.Native.Nat.{_≤_, _+_};
+ghost use Prim.Native.Nat.{_≤_};
 ghost use lib.ListN.{length, drop};
 ghost use Rattle.layout.specs.Layouts.{labelOf};
 ghost use Rattle.seeking.specs.Card.{refusal};

@@ -7,7 +7,6 @@ use lib.IntN.{ℤ}
 use borrow.Author.Tests.{eq-eqb, ne-eqb}
 use Rattle.seeking.specs.declared.Refusal.{Refusal}
 use Rattle.seeking.specs.Card.{refusal}
-use Rattle.header.specs.declared.Checked.{Checked}
 use Rattle.header.specs.declared.Checked.the-variants as checked
 use Rattle.header.specs.Refusing.{refusalOf}
 use Rattle.packing.specs.Packing.{packed, natural, wholeOffered, pairOffered, textOffered}

@@ -1,8 +1,7 @@
 -- Questions about the worked example of the paper.
 use mathlib.Core.Path.{_≡_, refl, ap, _∙_}
-use mathlib.Core.List.{List, []}
+use mathlib.Core.List.{[]}
 use lib.IntN.{pos, negsuc}
-use lib.ListN.{length}
 use Rattle.layout.specs.Shape.{bytes}
 use Rattle.text.specs.Texts.{textEnd, textOf}
 use Rattle.seeking.specs.Card.{refusal}

@@ -1,16 +1,14 @@
 -- Bytes are printable exactly where no bad one is found among them.
-use Prim.Native.Nat.{ℕ, zero, suc, _+_, _-_, _≤_, _<_}
+use Prim.Native.Nat.{ℕ, zero, suc, _≤_, _<_}
 use native.Mathlib.Omega.{arith}
-use native.Mathlib.Numerals.{add-one}
-use mathlib.Core.Path.{_≡_, refl, sym, ap, _∙_}
-use mathlib.Core.List.{List, [], _∷_, _++_}
-use mathlib.Core.Bool.{Bool, true, false, cond, _&&_, not, true≢false, false≢true}
-use lib.ListN.{length, getD, take, drop}
-use lib.Dec.{leb, ltb}
-use borrow.Author.Tests.{not-true, not-false}
+use mathlib.Core.Path.{_≡_, refl, ap}
+use mathlib.Core.List.{List, [], _∷_}
+use mathlib.Core.Bool.{true, false, _&&_, not}
+use lib.ListN.{length, drop}
+use lib.Dec.{leb}
+use borrow.Author.Tests.{not-false}
 use Rattle.digits.proofs.Bools.{and-left, and-right, and-both}
-use Rattle.lists.specs.Count.{first}
-use Rattle.lists.proofs.Finding.{first-le, first-below, first-none}
+use Rattle.lists.proofs.Finding.{first-below, first-none}
 use Rattle.text.specs.Texts.{printable}
 use Rattle.printable.specs.Bytes.{badAt, firstBad}
 

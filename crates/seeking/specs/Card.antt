@@ -7,7 +7,6 @@ use lib.Dec.{eqb, ltb}
 use Rattle.printable.specs.Bytes.{firstBad}
 use Rattle.codes.specs.declared.Code.{Code}
 use Rattle.codes.specs.declared.Code.the-variants as code
-use Rattle.layout.specs.declared.Field.{Field}
 use Rattle.layout.specs.declared.Found.{Found}
 use Rattle.layout.specs.declared.Found.the-variants as found
 use Rattle.codes.specs.Codes.{codeOf}

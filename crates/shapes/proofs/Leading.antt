@@ -1,5 +1,5 @@
 -- A walk over the digits at the front, and what is known where it ends.
-use Prim.Native.Nat.{ℕ, suc, _+_, _≤_, _<_}
+use Prim.Native.Nat.{ℕ, _+_, _≤_, _<_}
 use native.Mathlib.Omega.{arith}
 use native.Mathlib.Numerals.{add-one}
 use native.Mathlib.Nat.{add-zero}
@@ -10,7 +10,6 @@ use lib.Dec.{eqb}
 use lib.ListN.{length, getD, drop, drop-of-length-le}
 use lib.Seq.{drop-cons}
 use borrow.Author.Tests.{eq-eqb, ne-eqb}
-use Rattle.digits.specs.declared.Run.{Run}
 use Rattle.digits.specs.Figures.{isDigit, leading, runOf}
 use Rattle.number.specs.declared.Figures.the-variants.{Units, Not}
 use Rattle.number.specs.Reading.{countedOf, figuresOf}

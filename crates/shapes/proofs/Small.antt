@@ -1,18 +1,18 @@
 -- A number of up to eighteen columns is below the limit.
-use Prim.Native.Nat.{ℕ, suc, _+_, _*_, _-_, _≤_, _<_, _^_, min}
+use Prim.Native.Nat.{ℕ, suc, _+_, _*_, _-_, _≤_, _<_, _^_}
 use native.Mathlib.Omega.{arith}
 use native.Mathlib.Nat.{lt-of-lt-of-le, le-trans, le-of-eq, mul-le-mul-right, pow-le-pow-right, zero-lt-suc}
 use lib.Pow.{pow-add}
-use mathlib.Core.Path.{_≡_, refl, sym, ap, _∙_}
+use mathlib.Core.Path.{_≡_, refl, sym}
 use mathlib.Core.List.{List, [], _∷_, _++_}
 use mathlib.Core.Bool.{Bool, true, false, cond, _&&_}
 use lib.Dec.{eqb}
-use lib.ListN.{length, drop, length-drop}
+use lib.ListN.{length, length-drop}
 use borrow.Author.Tests.{eqb-true}
 use Rattle.digits.specs.Figures.{isDigit, leading, behind, valueFrom, limit, capped}
 use Rattle.digits.proofs.Walk.{value-append, all-leading}
 use Rattle.digits.proofs.Numbers.{value-below}
-use Rattle.digits.proofs.Bools.{and-left, and-right}
+use Rattle.digits.proofs.Bools.{and-right}
 use Rattle.number.specs.declared.Figures.{Figures}
 use Rattle.number.specs.declared.Figures.the-variants.{Units, Not}
 use Rattle.number.specs.Reading.{allDigits, countedOf, unitsOf, pointOf, figuresOf}

@@ -1,5 +1,5 @@
 -- Blank columns are absent whatever their spelling, and nothing else is: blank is never zero.
-use Prim.Native.Nat.{ℕ, zero, _-_}
+use Prim.Native.Nat.{ℕ, _-_}
 use native.Mathlib.Omega.{arith}
 use native.Mathlib.Nat.{sub-zero}
 use mathlib.Core.Path.{_≡_, refl, sym, ap, _∙_}

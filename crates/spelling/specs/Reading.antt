@@ -15,8 +15,6 @@ use Rattle.axes.specs.declared.Axis.the-variants.{Y, X}
 use Rattle.position.specs.Angles.{angleOf}
 use Rattle.grid.specs.Grid.{gridOf}
 use Rattle.text.specs.Texts.{textEnd, textOf, leadingBlank}
-use Rattle.spelling.specs.declared.Columns.{Columns}
-use Rattle.spelling.specs.declared.Value.{Value}
 use Rattle.spelling.specs.declared.Value.the-variants.{Absent, Whole, Decimal, Angle, Date, Text}
 use Rattle.spelling.specs.declared.Reading.{Reading}
 use Rattle.spelling.specs.declared.Reading.the-variants.{Held, Malformed, OutOfRange}

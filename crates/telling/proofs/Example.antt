@@ -4,9 +4,7 @@ use mathlib.Core.Path.{_≡_, refl, sym, ap, ap₂, _∙_}
 use mathlib.Core.List.{List, [], _∷_, _++_, map}
 use lib.ListN.{length, length-map}
 use Rattle.digits.specs.Digits.{digits, sizeUpTo}
-use Rattle.header.specs.Refusing.{refusalOf}
 use Rattle.broken.specs.Faults.{entryOf, faults, entries}
-use Rattle.tie_laws.proofs.Complete.{listOf}
 use Rattle.tie_laws.proofs.ExampleCards.{example}
 use Rattle.tie_laws.proofs.Example.{accepted, worked}
 use Rattle.lines.specs.Text.{bytes, newline, numeral, spaced, countText, entryText, entryAt, entriesText, told, brokenText}

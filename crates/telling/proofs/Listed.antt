@@ -1,8 +1,8 @@
 -- What is told of a list that holds the first entries is what is told of all of them.
-use Prim.Native.Nat.{ℕ, zero, suc, _+_, _*_, _/_, _≤_, _<_, min}
+use Prim.Native.Nat.{ℕ, zero, suc, _+_, _*_, _/_, _<_, min}
 use native.Mathlib.Omega.{arith}
-use mathlib.Core.Path.{_≡_, refl, sym, ap, ap₂, _∙_}
-use mathlib.Core.List.{List, [], _∷_, _++_}
+use mathlib.Core.Path.{_≡_, refl, ap, ap₂, _∙_}
+use mathlib.Core.List.{List, _++_}
 use lib.ListN.{length, getD, length-map}
 use Rattle.lists.specs.Laid.{laid, fitting}
 use Rattle.lists.proofs.Laying.{laid-at, length-laid}
@@ -16,7 +16,7 @@ use Rattle.ties.specs.declared.Ties.{Ties}
 use Rattle.ties.specs.declared.Ties.the-variants.{Found, Refused}
 use Rattle.ties.specs.Answer.{answerFor, listFor}
 use Rattle.telling.specs.Answer.{answerOf, answerTo}
-use Rattle.lines.specs.Text.{refusedText, countText, entryText, entryAt, entriesText, told, brokenText}
+use Rattle.lines.specs.Text.{refusedText, countText, entryAt, entriesText, told, brokenText}
 
 entry-same : (l m : List ℕ) (i : ℕ) → ((j : ℕ) → j < 3 * i + 3 → getD l j 0 ≡ getD m j 0) → entryAt l i ≡ entryAt m i
 unfolding entryAt

@@ -1,14 +1,14 @@
 -- A text that was read can be put back, and leaves the very columns it was read from.
-use Prim.Native.Nat.{ℕ, zero, suc, _+_, _-_, _≤_, _<_}
+use Prim.Native.Nat.{ℕ, zero, suc, _-_, _≤_}
 use native.Mathlib.Omega.{arith}
 use native.Mathlib.Nat.{sub-zero, suc-sub-suc}
-use mathlib.Core.Path.{_≡_, refl, sym, ap, ap₂, subst, _∙_}
+use mathlib.Core.Path.{_≡_, refl, sym, ap, ap₂, _∙_}
 use mathlib.Core.List.{List, [], _∷_, _++_}
 use mathlib.Core.Bool.{Bool, true, false, cond, _&&_, _||_, not}
 use lib.ListN.{length, take, drop, replicate, take-append-drop}
 use lib.Seq.{length-take-le}
 use lib.Dec.{eqb, leb}
-use borrow.Author.Tests.{eqb-true, ne-eqb, eq-eqb, le-leb}
+use borrow.Author.Tests.{eqb-true, ne-eqb, eq-eqb}
 use Rattle.digits.specs.Columns.{agreed}
 use Rattle.digits.proofs.Bools.{and-left, and-right, and-both}
 use Rattle.text.specs.Texts.{textEnd, textOf, printable, leadingBlank, wellFormed, textIn}

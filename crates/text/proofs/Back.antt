@@ -1,14 +1,14 @@
 -- A text that was put is the text that is handed back.
-use Prim.Native.Nat.{ℕ, zero, suc, _+_, _-_, _≤_, _<_}
+use Prim.Native.Nat.{ℕ, zero, suc, _+_, _-_, _≤_}
 use native.Mathlib.Omega.{arith}
 use mathlib.Core.Path.{_≡_, refl, sym, ap, subst, _∙_}
-use mathlib.Core.List.{List, [], _∷_, _++_, append-nil}
+use mathlib.Core.List.{List, [], _∷_, _++_}
 use mathlib.Core.Bool.{Bool, true, false, cond, _&&_, _||_, not}
 use lib.ListN.{length, take, replicate, length-append, length-replicate}
 use lib.Seq.{take-append-seam}
 use lib.Dec.{eqb, leb}
 use borrow.Author.Tests.{eqb-true, eqb-false, leb-true, not-true}
-use Rattle.digits.specs.Columns.{Entry, agreed, refused}
+use Rattle.digits.specs.Columns.{agreed, refused}
 use Rattle.digits.specs.declared.Written.the-variants.{Unprintable, Malformed, NoRoom}
 use Rattle.digits.proofs.Bools.{and-left, and-right}
 use Rattle.text.specs.Texts.{textEnd, textOf, printable, leadingBlank, wellFormed, textIn}

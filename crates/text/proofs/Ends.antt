@@ -3,17 +3,17 @@ use Prim.Native.Nat.{ℕ, zero, suc, _+_, _-_, _≤_, _<_}
 use native.Mathlib.Omega.{arith}
 use native.Mathlib.Numerals.{add-one}
 use mathlib.Core.Path.{_≡_, refl, sym, ap, ap₂, _∙_}
-use mathlib.Core.List.{List, [], _∷_, _++_, append-assoc}
-use mathlib.Core.Bool.{Bool, true, false, cond, _&&_, _||_, not}
+use mathlib.Core.List.{List, [], _∷_, _++_}
+use mathlib.Core.Bool.{Bool, true, false, _||_, not}
 use lib.ListN.{length, getD, take, drop, set, replicate, drop-of-length-le, length-append, length-drop}
 use lib.Seq.{take-suc, drop-cons, length-take-le, set-at, append-snoc, take-append-seam}
-use lib.Dec.{eqb, leb, eqb·suc-zero}
+use lib.Dec.{eqb, eqb·suc-zero}
 use borrow.Author.Tests.{eq-eqb, ne-eqb, le-leb, lt-leb}
 use borrow.Rule.Slice.PartMut.{putMid}
 use Rattle.digits.specs.declared.Written.the-variants.{Unprintable, Malformed, NoRoom}
 use Rattle.digits.specs.Columns.{agreed, refused}
 use Rattle.digits.proofs.Parts.{put-rest, rest-length}
-use Rattle.text.specs.Texts.{textEnd, textOf, printable, leadingBlank, wellFormed, textIn}
+use Rattle.text.specs.Texts.{textEnd, printable, leadingBlank, wellFormed, textIn}
 
 -- one more blank behind a text
 end-blank : (t : List ℕ) → textEnd (t ++ (32 ∷ [])) ≡ textEnd t

@@ -2,7 +2,7 @@
 use Prim.Native.Nat.{ℕ, suc, _-_}
 use mathlib.Core.List.{List, [], _∷_, _++_}
 use mathlib.Core.Bool.{Bool, true, false, cond, _&&_, _||_, not}
-use lib.ListN.{length, take, getD, replicate}
+use lib.ListN.{length, take, replicate}
 use lib.Dec.{eqb, leb}
 use Rattle.digits.specs.declared.Written.the-variants.{Unprintable, Malformed, NoRoom}
 use Rattle.digits.specs.Columns.{Entry, agreed, refused}

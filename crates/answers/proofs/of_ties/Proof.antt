@@ -1,5 +1,5 @@
 -- `answers::of_ties` meets its contract.
-use mathlib.Core.Path.{_≡_, refl, sym, ap, _∙_}
+use mathlib.Core.Path.{sym, ap, _∙_}
 use Rattle.answers.specs.Replies.{tiesReply}
 use borrow.Author.Needs.{needs}
 use Rattle.answers.proofs.of_ties.Statement.{statement}

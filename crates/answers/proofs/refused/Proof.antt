@@ -1,5 +1,4 @@
 -- `answers::refused` meets its contract.
-use mathlib.Core.Path.{_≡_, refl, sym, ap, _∙_}
 use Rattle.answers.proofs.Steps.{back, alike}
 use Rattle.answers.specs.Replies.{refusedReply}
 use borrow.Author.Needs.{needs}

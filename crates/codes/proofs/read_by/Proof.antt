@@ -3,8 +3,7 @@ use mathlib.Core.Path.{_≡_, refl, sym, _∙_}
 use Prim.Native.Nat.{_+_, _-_, _≤_}
 use native.Mathlib.Omega.{arith}
 use borrow.Author.Needs.{needs}
-use denote.Ref.{now}
-use lib.ListN.{length, drop}
+use lib.ListN.{drop}
 use Rattle.layout.specs.Packed.{layoutCount, headOf, wordOf}
 use Rattle.codes.specs.Codes.{codes, placeIn}
 use Rattle.codes.proofs.Places.{codes-count}

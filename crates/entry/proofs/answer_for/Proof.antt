@@ -1,8 +1,6 @@
 use Rattle.entry.specs.Putting.{answerOf, cameOf}
 use mathlib.Core.List.{[]}
-use denote.Ref.{now}
-use mathlib.Core.Path.{_≡_, refl, sym, ap, _∙_}
-use native.Mathlib.Omega.{arith}
+use mathlib.Core.Path.{sym, ap, _∙_}
 use borrow.Author.Needs.{needs}
 use Rattle.entry.proofs.answer_for.Statement.{statement}
 use Rattle.entry.proofs.answer_for.Tie as tie

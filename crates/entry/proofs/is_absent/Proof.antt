@@ -1,6 +1,5 @@
 use Rattle.entry.proofs.Steps.{present}
 use mathlib.Core.Path.{sym}
-use native.Mathlib.Omega.{arith}
 use borrow.Author.Needs.{needs}
 use Rattle.entry.proofs.is_absent.Statement.{statement}
 use Rattle.entry.proofs.is_absent.Tie as tie

@@ -1,10 +1,9 @@
 use Rattle.entry.proofs.Steps.{other-is, other-over}
 use Rattle.entry.specs.Putting.{otherSecond}
-use Rattle.needing.specs.Needs.{secondBy}
-use Rattle.layout.specs.Layouts.{fieldsOf, fieldOf}
+use Rattle.layout.specs.Layouts.{fieldsOf}
 use lib.Dec.{eqb}
 use lib.ListN.{length, drop}
-use mathlib.Core.Bool.{_||_, _&&_, not}
+use mathlib.Core.Bool.{_&&_, not}
 use Prim.Native.Nat.{_≤_, _-_, _+_}
 use denote.Ref.{now}
 use mathlib.Core.Path.{_≡_, refl, sym, ap, _∙_}

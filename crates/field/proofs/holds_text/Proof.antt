@@ -1,9 +1,7 @@
 use Rattle.field.proofs.Steps.{text-not, text-other}
 use Rattle.field.specs.Reading.{holdsText}
 use Rattle.judging.specs.declared.Judged.the-variants.{Is}
-use denote.Ref.{now}
-use mathlib.Core.Path.{_≡_, refl, sym, ap, _∙_}
-use native.Mathlib.Omega.{arith}
+use mathlib.Core.Path.{sym, ap, _∙_}
 use borrow.Author.Needs.{needs}
 use Rattle.field.proofs.holds_text.Statement.{statement}
 use Rattle.field.proofs.holds_text.Tie as tie

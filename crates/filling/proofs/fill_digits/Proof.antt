@@ -9,7 +9,7 @@ use Rattle.digits.specs.Digits.{digits}
 use lib.ListN.{length, drop}
 use mathlib.Core.List.{_++_}
 use mathlib.Core.Path.{_≡_}
-use Prim.Native.Nat.{_≤_, _-_, _/_, _^_}
+use Prim.Native.Nat.{_≤_, _/_, _^_}
 use native.Mathlib.Omega.{arith}
 use borrow.Author.Needs.{needs}
 use Rattle.filling.proofs.fill_digits.Statement.{statement}

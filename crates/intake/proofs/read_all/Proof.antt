@@ -1,6 +1,5 @@
 -- `read_all` is safe and ends: each read brings a byte at least, or is the last.
 use mathlib.Core.Path.{subst}
-use native.Mathlib.Omega.{arith}
 use Rattle.intake.specs.declared.More.{More}
 use Rattle.intake.specs.declared.More.the-variants.{Bytes}
 use Rattle.intake.specs.Sizes.{Brings}

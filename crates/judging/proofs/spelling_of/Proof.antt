@@ -1,8 +1,6 @@
 use Rattle.layout.specs.declared.Kind.the-variants.{Latitude, Longitude}
 use Rattle.judging.specs.Fields.{spellingOf}
-use denote.Ref.{now}
-use mathlib.Core.Path.{_≡_, refl, sym, ap, _∙_}
-use native.Mathlib.Omega.{arith}
+use mathlib.Core.Path.{sym, ap, _∙_}
 use borrow.Author.Needs.{needs}
 use Rattle.judging.proofs.spelling_of.Statement.{statement}
 use Rattle.judging.proofs.spelling_of.Tie as tie

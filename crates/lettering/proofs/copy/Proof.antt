@@ -3,7 +3,7 @@ use denote.Ref.{now}
 use lib.Seq.{take-all}
 use lib.ListN.{length, getD, take, drop, set, length-set}
 use mathlib.Core.List.{_++_}
-use mathlib.Core.Path.{_≡_, sym, _∙_, refl, ap}
+use mathlib.Core.Path.{_≡_, _∙_, refl, ap}
 use Prim.Native.Nat.{_≤_, _-_}
 use native.Mathlib.Omega.{arith}
 use borrow.Author.Needs.{needs}

@@ -3,7 +3,6 @@ use Rattle.text.specs.Texts.{leadingBlank}
 use denote.Ref.{now}
 use mathlib.Core.Bool.{_||_, not}
 use mathlib.Core.Path.{sym, ap, _∙_}
-use native.Mathlib.Omega.{arith}
 use borrow.Author.Needs.{needs}
 use Rattle.lettering.proofs.well_formed.Statement.{statement}
 use Rattle.lettering.proofs.well_formed.Tie as tie

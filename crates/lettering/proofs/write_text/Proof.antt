@@ -1,10 +1,8 @@
 use Rattle.text.proofs.Ends.{text-unprintable, text-malformed, text-no-room, text-agreed, filled}
-use Rattle.digits.proofs.Parts.{put-length}
 use Rattle.digits.proofs.Answers.{made, turned-away}
 use borrow.Author.Tests.{not-true, not-false}
 use denote.Ref.{now}
-use mathlib.Core.Path.{sym, ap, _∙_}
-use native.Mathlib.Omega.{arith}
+use mathlib.Core.Path.{sym, _∙_}
 use borrow.Author.Needs.{needs}
 use Rattle.lettering.proofs.write_text.Statement.{statement}
 use Rattle.lettering.proofs.write_text.Tie as tie

@@ -1,5 +1,4 @@
 -- `push_count` meets its contract: the word, the number, the end of the line.
-use mathlib.Core.List.{[], _∷_}
 use native.Mathlib.Omega.{arith}
 use Rattle.lines.specs.Text.{bytes, spaced, newline, countText}
 use Rattle.lines.proofs.Pushing.{Put, then}

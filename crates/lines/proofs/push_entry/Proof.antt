@@ -1,6 +1,6 @@
 -- `push_entry` meets its contract: the numbers of the entry stand one after the other in the list.
 use mathlib.Core.Path.{_∙_}
-use Rattle.lines.specs.Text.{entryAt, entryText}
+use Rattle.lines.specs.Text.{entryAt}
 use borrow.Author.Needs.{needs}
 use Rattle.lines.proofs.push_entry.Statement.{statement}
 use Rattle.lines.proofs.push_entry.Tie as tie

@@ -1,13 +1,13 @@
 -- `push_number` meets its contract: the digits are filled in beside the buffer and then put.
 use Prim.Native.Nat.{_≤_, _+_}
-use mathlib.Core.Path.{_≡_, sym, ap, _∙_}
-use lib.ListN.{length, take, replicate}
-use lib.Seq.{length-take-le, sets}
+use mathlib.Core.Path.{_≡_, sym, _∙_}
+use lib.ListN.{length, replicate}
+use lib.Seq.{length-take-le}
 use native.Mathlib.Omega.{arith}
 use Rattle.digits.specs.Digits.{digits, size}
 use Rattle.digits.proofs.Spell.{digits-length}
 use Rattle.lines.specs.Text.{numeral}
-use Rattle.lines.proofs.Pushing.{filled-length, filled-front, filled-whole, ten-digits}
+use Rattle.lines.proofs.Pushing.{filled-front, filled-whole, ten-digits}
 use borrow.Author.Needs.{needs}
 use Rattle.lines.proofs.push_number.Statement.{statement}
 use Rattle.lines.proofs.push_number.Tie as tie

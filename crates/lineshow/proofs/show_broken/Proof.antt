@@ -1,5 +1,4 @@
 -- `show_broken` shows a text that lies within its room.
-use lib.ListN.{length}
 use lib.Seq.{length-take-le}
 use mathlib.Core.Path.{sym}
 use borrow.Author.Needs.{needs}

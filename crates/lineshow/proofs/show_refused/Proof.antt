@@ -1,5 +1,4 @@
 -- `show_refused` puts a line that lies within its room.
-use lib.ListN.{length}
 use lib.Seq.{length-take-le}
 use mathlib.Core.Path.{sym}
 use borrow.Author.Needs.{needs}

@@ -1,10 +1,10 @@
 use Rattle.needing.proofs.Steps.{second-found, second-goes, second-over}
-use Rattle.needing.specs.Needs.{anySecond, secondBy}
-use Rattle.layout.specs.Layouts.{fieldsOf, fieldOf}
+use Rattle.needing.specs.Needs.{anySecond}
+use Rattle.layout.specs.Layouts.{fieldsOf}
 use lib.ListN.{length, drop}
-use Prim.Native.Nat.{_≤_, _-_, _+_}
+use Prim.Native.Nat.{_≤_, _-_}
 use denote.Ref.{now}
-use mathlib.Core.Path.{_≡_, refl, sym, ap, _∙_}
+use mathlib.Core.Path.{_≡_, refl, sym, _∙_}
 use native.Mathlib.Omega.{arith}
 use borrow.Author.Needs.{needs}
 use Rattle.needing.proofs.any_second.Statement.{statement}

@@ -1,9 +1,6 @@
 use Rattle.needing.specs.Needs.{isBlank}
 use lib.Dec.{eqb}
-use mathlib.Core.Bool.{Bool}
-use denote.Ref.{now}
-use mathlib.Core.Path.{_≡_, refl, sym, ap, _∙_}
-use native.Mathlib.Omega.{arith}
+use mathlib.Core.Path.{ap}
 use borrow.Author.Needs.{needs}
 use Rattle.needing.proofs.is_blank.Statement.{statement}
 use Rattle.needing.proofs.is_blank.Tie as tie

@@ -1,10 +1,8 @@
 use Rattle.needing.proofs.Steps.{second-first, second-columns}
-use Rattle.needing.specs.Needs.{secondAt, columnsOf, isBlank}
 use borrow.Author.Tests.{not-true, not-false}
-use mathlib.Core.Bool.{not, _&&_, false, true}
+use mathlib.Core.Bool.{not}
 use denote.Ref.{now}
-use mathlib.Core.Path.{_≡_, refl, sym, ap, _∙_}
-use native.Mathlib.Omega.{arith}
+use mathlib.Core.Path.{sym, ap, _∙_}
 use borrow.Author.Needs.{needs}
 use Rattle.needing.proofs.second_at.Statement.{statement}
 use Rattle.needing.proofs.second_at.Tie as tie

@@ -1,7 +1,6 @@
 use Rattle.needing.proofs.Steps.{second-none, second-is}
 use Rattle.layout.proofs.Numbers.{found-lies}
-use denote.Ref.{now}
-use mathlib.Core.Path.{_≡_, refl, sym, ap, _∙_}
+use mathlib.Core.Path.{sym, _∙_}
 use native.Mathlib.Omega.{arith}
 use borrow.Author.Needs.{needs}
 use Rattle.needing.proofs.second_by.Statement.{statement}

@@ -1,7 +1,4 @@
-use mathlib.Core.Path.{sym}
 use borrow.Author.Tests.{eq-eqb, ne-eqb}
-use native.Mathlib.Omega.{arith}
-use borrow.Author.Needs.{needs}
 use Rattle.number.proofs.counted.Statement.{statement}
 use Rattle.number.proofs.counted.Tie as tie
 use Rattle.number.proofs.counted.Reads as reads

@@ -1,7 +1,6 @@
 use Rattle.number.proofs.Parsing.{figures-whole, figures-no-point-in-whole, figures-other-byte, figures-odd-places, figures-places}
 use Rattle.digits.proofs.Parts.{rest-part}
 use borrow.Author.Tests.{not-true, not-false}
-use denote.Ref.{now}
 use mathlib.Core.Path.{_∙_}
 use native.Mathlib.Omega.{arith}
 use borrow.Author.Needs.{needs}

@@ -1,6 +1,4 @@
 -- `number::sign_at` meets its contract: a plus or a minus is a sign.
-use mathlib.Core.Bool.{Bool, true, false, cond, _||_}
-use mathlib.Core.Path.{_≡_, sym, ap}
 use native.Mathlib.Omega.{arith}
 use Rattle.number.specs.Reading.{signAt}
 use Rattle.number.proofs.sign_at.Statement.{statement}

@@ -5,11 +5,10 @@ use Rattle.digits.specs.Columns.{fits, written}
 use mir.ValLaws.{toZ-ofZ}
 use mir.Syntax.{w64}
 use mir.Val.{SFits}
-use lib.IntN.{ℤ, natAbs}
+use lib.IntN.{natAbs}
 use lib.ListN.{length}
 use denote.Ref.{now}
-use mathlib.Core.Path.{refl, sym, ap, _∙_, _≡_}
-use native.Mathlib.Omega.{arith}
+use mathlib.Core.Path.{refl, sym, ap, _∙_}
 use borrow.Author.Needs.{needs}
 use Rattle.numerals.proofs.write_decimal.Statement.{statement}
 use Rattle.numerals.proofs.write_decimal.Tie as tie

@@ -1,7 +1,5 @@
 use Rattle.numerals.proofs.Writing.{plain-whole, plain-short, plain-pointed}
 use Rattle.digits.proofs.Answers.{fitted, declined}
-use denote.Ref.{now}
-use native.Mathlib.Omega.{arith}
 use borrow.Author.Needs.{needs}
 use Rattle.numerals.proofs.write_plain.Statement.{statement}
 use Rattle.numerals.proofs.write_plain.Tie as tie

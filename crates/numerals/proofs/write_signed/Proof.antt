@@ -3,7 +3,7 @@ use Rattle.numerals.specs.Spelling.{signColumns}
 use Rattle.digits.proofs.Parts.{put-length}
 use denote.Ref.{now}
 use lib.ListN.{set, length-set}
-use mathlib.Core.Path.{sym, ap, _∙_}
+use mathlib.Core.Path.{ap, _∙_}
 use native.Mathlib.Omega.{arith}
 use borrow.Author.Needs.{needs}
 use Rattle.numerals.proofs.write_signed.Statement.{statement}

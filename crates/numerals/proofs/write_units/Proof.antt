@@ -1,9 +1,8 @@
 use Rattle.numerals.proofs.Writing.{units-full, units-least}
 use Rattle.digits.specs.Digits.{size}
 use denote.Ref.{now}
-use Prim.Native.Nat.{ℕ, _-_, _+_, max}
+use Prim.Native.Nat.{_+_, max}
 use mathlib.Core.Path.{sym, ap, _∙_, _≡_}
-use native.Mathlib.Omega.{arith}
 use borrow.Author.Needs.{needs}
 use Rattle.numerals.proofs.write_units.Statement.{statement}
 use Rattle.numerals.proofs.write_units.Tie as tie

@@ -1,9 +1,6 @@
 -- `offences::range_offence` meets its contract.
-use mathlib.Core.Path.{_≡_, sym, ap, _∙_}
-use mathlib.Core.Bool.{cond}
 use mir.ValLaws.{toZ-ofZ}
 use mir.Syntax.{w64}
-use Rattle.ranges.specs.Ranges.{inRange}
 use borrow.Author.Needs.{needs}
 use Rattle.offences.proofs.range_offence.Statement.{statement}
 use Rattle.offences.proofs.range_offence.Tie as tie

@@ -1,5 +1,5 @@
 -- `offences::whole_offence` meets its contract: a size tells the number, or why there is none.
-use mathlib.Core.Path.{_≡_, sym, ap, _∙_}
+use mathlib.Core.Path.{ap, _∙_}
 use native.Mathlib.Omega.{arith}
 use Prim.Native.Nat.{_-_}
 use mathlib.Core.Bool.{cond}

@@ -1,8 +1,8 @@
 -- `offers::offered` meets its contract.
-use mathlib.Core.Path.{_≡_, refl, sym, ap, _∙_}
+use mathlib.Core.Path.{refl, ap, _∙_}
 use mir.Syntax.{w64}
 use mir.ValLaws.{toZ-ofZ}
-use borrow.Author.Tests.{eq-eqb, ne-eqb}
+use borrow.Author.Tests.{eq-eqb}
 use Rattle.offers.specs.Offers.{yearOf, offeredOf}
 use Rattle.offers.proofs.Steps.{whole-offered, decimal-offered, angle-offered, date-offered, other-offered}
 use borrow.Author.Needs.{needs}

@@ -1,9 +1,7 @@
 -- `p294::give` meets its contract.
-use mathlib.Core.Path.{_≡_, refl, sym, ap, _∙_}
+use mathlib.Core.Path.{refl}
 use native.Mathlib.Omega.{arith}
 use denote.Ref.{now}
-use mir.ValLaws.{toZ-ofZ}
-use mir.Syntax.{w64}
 use lib.ListN.{length-set}
 use Rattle.answers.proofs.Steps.{back}
 use Rattle.p294.proofs.Giving.{not-given, all-given}

@@ -1,7 +1,6 @@
 -- `printable::all_good` meets its contract.
 use Rattle.printable.proofs.Rows.{good-more, not-whole, whole-good}
 use Rattle.printable.specs.Bytes.{goodTo}
-use lib.ListN.{length}
 use Prim.Native.Nat.{_≤_, _-_}
 use denote.Ref.{now}
 use mathlib.Core.Path.{_≡_, refl, ap, _∙_}

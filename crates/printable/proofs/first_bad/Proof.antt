@@ -5,7 +5,7 @@ use Rattle.lists.specs.Count.{firstFrom}
 use lib.ListN.{length}
 use Prim.Native.Nat.{_≤_, _-_}
 use denote.Ref.{now}
-use mathlib.Core.Path.{_≡_, refl, sym, ap, _∙_}
+use mathlib.Core.Path.{_≡_, sym, _∙_}
 use native.Mathlib.Omega.{arith}
 use borrow.Author.Needs.{needs}
 use Rattle.printable.proofs.first_bad.Statement.{statement}

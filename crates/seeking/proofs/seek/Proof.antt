@@ -2,7 +2,7 @@ use Rattle.seeking.proofs.Steps.{sought-none, sought-odd, sought-bad, s
 use Rattle.seeking.specs.Card.{coded, wayFor}
 use lib.Seq.{length-take-le}
 use denote.Ref.{now}
-use mathlib.Core.Path.{_≡_, refl, sym, ap, _∙_}
+use mathlib.Core.Path.{sym, ap, _∙_}
 use native.Mathlib.Omega.{arith}
 use borrow.Author.Needs.{needs}
 use Rattle.seeking.proofs.seek.Statement.{statement}

@@ -1,5 +1,5 @@
 -- `seeking::under_form` meets its contract: a row is the field, or there is none.
-use mathlib.Core.Path.{_≡_, refl, sym, ap, _∙_}
+use mathlib.Core.Path.{refl, sym, ap, _∙_}
 use borrow.Author.Needs.{needs}
 use Rattle.layout.proofs.Lines.{no-zeroth, is-none, is-found}
 use Rattle.seeking.specs.declared.Way.the-variants as Way

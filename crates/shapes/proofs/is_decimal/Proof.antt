@@ -1,5 +1,4 @@
 -- `shapes::is_decimal` meets its contract, by how many digits stand before the point and behind it.
-use mathlib.Core.Path.{_≡_, refl, sym, ap, _∙_}
 use native.Mathlib.Omega.{arith}
 use denote.Ref.{now}
 use Rattle.digits.proofs.Parts.{rest-part}

@@ -1,10 +1,10 @@
 -- `shapes::mark_of` meets its contract: the walk keeps: what stands at the front is what it passed and what follows.
-use mathlib.Core.Path.{_≡_, refl, sym, ap, _∙_}
-use Prim.Native.Nat.{_+_, _-_, _*_, _≤_}
+use mathlib.Core.Path.{_≡_, sym, ap, _∙_}
+use Prim.Native.Nat.{_+_, _-_, _≤_}
 use native.Mathlib.Omega.{arith}
 use borrow.Author.Needs.{needs}
 use denote.Ref.{now}
-use lib.ListN.{length, getD, drop}
+use lib.ListN.{length, drop}
 use Rattle.digits.specs.Figures.{limit, runOf}
 use Rattle.digits.proofs.Walk.{runFrom, run-starts, run-stops, run-goes, run-ends, is-digit, below-digit, above-digit}
 use Rattle.shapes.proofs.Leading.{mark-odd, mark-none, mark-is}

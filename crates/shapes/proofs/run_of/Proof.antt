@@ -1,5 +1,5 @@
 -- `shapes::run_of` meets its contract: the walk keeps: what stands at the front is what it passed and what follows.
-use mathlib.Core.Path.{_≡_, refl, sym, _∙_}
+use mathlib.Core.Path.{_≡_, sym, _∙_}
 use Prim.Native.Nat.{_+_, _-_, _≤_}
 use native.Mathlib.Omega.{arith}
 use native.Mathlib.Nat.{zero-add}

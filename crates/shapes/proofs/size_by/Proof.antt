@@ -1,7 +1,5 @@
 -- `shapes::size_by` meets its contract.
-use mathlib.Core.Path.{_≡_, sym}
 use native.Mathlib.Omega.{arith}
-use borrow.Author.Needs.{needs}
 use borrow.Author.Tests.{eq-eqb, ne-eqb, lt-ltb, le-ltb}
 use Rattle.digits.specs.Figures.{limit}
 use Rattle.shapes.specs.Shapes.{sizeBy}

@@ -1,5 +1,5 @@
 -- `shapes::whole_size` meets its contract.
-use mathlib.Core.Path.{_≡_, refl, sym, ap, _∙_}
+use mathlib.Core.Path.{ap}
 use native.Mathlib.Omega.{arith}
 use denote.Ref.{now}
 use Rattle.digits.proofs.Parts.{rest-part}

@@ -1,5 +1,4 @@
 -- `finish` writes a part that lies within the page.
-use lib.ListN.{length}
 use native.Mathlib.Omega.{arith}
 use lib.Seq.{length-take-le}
 use mathlib.Core.Path.{sym}

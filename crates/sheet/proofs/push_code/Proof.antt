@@ -1,5 +1,4 @@
 -- `push_code` puts a part that lies within the card.
-use lib.ListN.{length}
 use denote.Ref.{now}
 use lib.Seq.{length-take-le}
 use mathlib.Core.Path.{sym}

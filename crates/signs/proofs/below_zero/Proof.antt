@@ -1,6 +1,4 @@
 use Rattle.signs.proofs.Signs.{below-is}
-use native.Mathlib.Omega.{arith}
-use borrow.Author.Needs.{needs}
 use Rattle.signs.proofs.below_zero.Statement.{statement}
 use Rattle.signs.proofs.below_zero.Tie as tie
 use Rattle.signs.proofs.below_zero.Reads as reads

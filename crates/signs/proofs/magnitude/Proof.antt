@@ -1,9 +1,5 @@
 use Rattle.signs.proofs.Signs.{below-is, nearer-fits, turned-fits, less-cast, less-one, less-one-fits, plus-cast}
-use mir.ValLaws.{toZ-ofZ}
-use mir.Syntax.{w64}
-use lib.IntN.{natAbs}
-use mathlib.Core.Path.{sym, _∙_, ap}
-use native.Mathlib.Omega.{arith}
+use mathlib.Core.Path.{sym, _∙_}
 use borrow.Author.Needs.{needs}
 use Rattle.signs.proofs.magnitude.Statement.{statement}
 use Rattle.signs.proofs.magnitude.Tie as tie

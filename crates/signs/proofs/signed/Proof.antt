@@ -1,6 +1,5 @@
 use Rattle.signs.proofs.Signs.{minus-held, signed-minus, signed-plus}
 use Rattle.signs.specs.Signs.{signedOf}
-use Rattle.digits.specs.Figures.{limit}
 use mathlib.Core.Path.{ap, _∙_}
 use native.Mathlib.Omega.{arith}
 use borrow.Author.Needs.{needs}

@@ -6,7 +6,6 @@ use lib.IntN.{ℤ}
 use mathlib.Core.Path.{_∙_}
 use Rattle.spelling.specs.Reading.{angleReading}
 use mathlib.Core.Path.{sym, ap}
-use native.Mathlib.Omega.{arith}
 use borrow.Author.Needs.{needs}
 use Rattle.spelling.proofs.angle_of.Statement.{statement}
 use Rattle.spelling.proofs.angle_of.Tie as tie

@@ -1,6 +1,5 @@
 use Rattle.spelling.specs.Reading.{decimalReading}
 use mathlib.Core.Path.{sym, ap}
-use native.Mathlib.Omega.{arith}
 use borrow.Author.Needs.{needs}
 use Rattle.spelling.proofs.decimal_of.Statement.{statement}
 use Rattle.spelling.proofs.decimal_of.Tie as tie

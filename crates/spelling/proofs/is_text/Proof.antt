@@ -2,7 +2,6 @@ use Rattle.spelling.proofs.Ways.{not-held, not-text}
 use Rattle.spelling.specs.Reading.{isText}
 use Rattle.spelling.specs.declared.Reading.the-variants.{Held}
 use mathlib.Core.Path.{sym, ap, _∙_}
-use native.Mathlib.Omega.{arith}
 use borrow.Author.Needs.{needs}
 use Rattle.spelling.proofs.is_text.Statement.{statement}
 use Rattle.spelling.proofs.is_text.Tie as tie

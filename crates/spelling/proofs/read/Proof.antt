@@ -1,7 +1,6 @@
 use Rattle.spelling.specs.Reading.{wholeReading, decimalReading, dateReading, angleReading, readingOf}
 use denote.Ref.{now}
 use mathlib.Core.Path.{sym, ap, _∙_}
-use native.Mathlib.Omega.{arith}
 use borrow.Author.Needs.{needs}
 use Rattle.spelling.proofs.read.Statement.{statement}
 use Rattle.spelling.proofs.read.Tie as tie

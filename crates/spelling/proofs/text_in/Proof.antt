@@ -1,5 +1,4 @@
 use Rattle.spelling.proofs.Ways.{text-absent, text-held, text-odd}
-use native.Mathlib.Omega.{arith}
 use borrow.Author.Needs.{needs}
 use Rattle.spelling.proofs.text_in.Statement.{statement}
 use Rattle.spelling.proofs.text_in.Tie as tie

@@ -4,7 +4,6 @@ use denote.Ref.{now}
 use mathlib.Core.Bool.{cond}
 use mathlib.Core.List.{[]}
 use mathlib.Core.Path.{sym, ap, _∙_}
-use native.Mathlib.Omega.{arith}
 use borrow.Author.Needs.{needs}
 use Rattle.spelling.proofs.text_of.Statement.{statement}
 use Rattle.spelling.proofs.text_of.Tie as tie

@@ -5,7 +5,6 @@ use mir.ValLaws.{toZ-ofZ}
 use mir.Syntax.{w64}
 use lib.IntN.{ℤ}
 use mathlib.Core.Path.{sym, ap, _∙_}
-use native.Mathlib.Omega.{arith}
 use borrow.Author.Needs.{needs}
 use Rattle.spelling.proofs.whole_of.Statement.{statement}
 use Rattle.spelling.proofs.whole_of.Tie as tie

@@ -1,6 +1,5 @@
 use Rattle.text.proofs.Ends.{blank-none, blank-some}
 use mathlib.Core.Path.{sym}
-use native.Mathlib.Omega.{arith}
 use borrow.Author.Needs.{needs}
 use Rattle.text.proofs.begins_blank.Statement.{statement}
 use Rattle.text.proofs.begins_blank.Tie as tie

@@ -2,8 +2,7 @@ use Rattle.text.specs.Texts.{textOf}
 use denote.Ref.{now}
 use lib.Seq.{length-take-le}
 use lib.ListN.{take}
-use mathlib.Core.Path.{sym, ap, _∙_}
-use native.Mathlib.Omega.{arith}
+use mathlib.Core.Path.{sym, ap}
 use borrow.Author.Needs.{needs}
 use Rattle.text.proofs.stretch.Statement.{statement}
 use Rattle.text.proofs.stretch.Tie as tie

@@ -3,7 +3,6 @@ use Rattle.writing.specs.Writing.{entryOf}
 use denote.Ref.{now}
 use lib.ListN.{length}
 use mathlib.Core.Path.{ap}
-use native.Mathlib.Omega.{arith}
 use borrow.Author.Needs.{needs}
 use Rattle.writing.proofs.write.Statement.{statement}
 use Rattle.writing.proofs.write.Tie as tie

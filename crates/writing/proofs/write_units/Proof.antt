@@ -2,7 +2,6 @@ use Rattle.writing.proofs.Ways.{room-done, room-none}
 use Rattle.numerals.specs.Spelling.{decimalIn}
 use lib.ListN.{length}
 use denote.Ref.{now}
-use native.Mathlib.Omega.{arith}
 use borrow.Author.Needs.{needs}
 use Rattle.writing.proofs.write_units.Statement.{statement}
 use Rattle.writing.proofs.write_units.Tie as tie

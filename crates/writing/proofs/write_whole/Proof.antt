@@ -8,7 +8,6 @@ use mir.Syntax.{w64}
 use lib.IntN.{ℤ}
 use lib.ListN.{length}
 use mathlib.Core.Path.{sym, ap, _∙_}
-use native.Mathlib.Omega.{arith}
 use borrow.Author.Needs.{needs}
 use Rattle.writing.proofs.write_whole.Statement.{statement}
 use Rattle.writing.proofs.write_whole.Tie as tie
