@@ -77,8 +77,8 @@ fn fits_word(word: u64, head: u64, fourth: u8, fifth: u8) -> bool
     byte_fits((word / 256 % 256) as u8, fourth)
 }
 
-// A layout before which none reads a code: the first that takes none below it, or the comments. Layouts behind the last one
-// change nothing here.
+// A layout before which none reads a code: all that stand before it take only lower codes, or, where a code is below every H,
+// only higher ones. Layouts behind the last one change nothing here.
 fn start_of(word: u64) -> usize
     ensures { λ r. ⌜ (r ≤ layoutCount) × ((s : List ℕ) → wordOf s ≡ word → placeIn codes s ≡ r + placeIn (drop r codes) s) ⌝ }
 {
