@@ -1,5 +1,6 @@
 // One card of a UKOOA P2/94 line header, a second time: written in C from the paper alone, to be compared with the
-// proved software. Cards are byte pointers with a length; columns, fields and cards count from 1; nothing is allocated.
+// proved software: it shares no table and no code, so that a slip in a definition, which no proof finds, would have to be
+// made twice. Cards are byte pointers with a length; columns, fields and cards count from 1; nothing is allocated.
 #ifndef SECOND_CARD_H
 #define SECOND_CARD_H
 

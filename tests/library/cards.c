@@ -1,7 +1,7 @@
 // Fields, texts, openings, puts and the refusals of headers: the library against the second implementation, on what
-// second/generate.c makes.
+// tests/second/generate.c makes.
 #define main generate_main
-#include "../../second/generate.c"
+#include "../second/generate.c"
 #undef main
 
 #include "../../second/ties.h"

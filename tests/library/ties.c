@@ -1,7 +1,7 @@
 // The list of broken ties and both key questions: the library against the second implementation, on what
-// second/tiecases.c makes.
+// tests/second/tiecases.c makes.
 #define main tiecases_main
-#include "../../second/tiecases.c"
+#include "../second/tiecases.c"
 #undef main
 
 #include "compare.h"

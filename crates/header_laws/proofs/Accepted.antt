@@ -6,13 +6,13 @@ use mathlib.Core.Path.{_≡_}
 use mathlib.Core.Bool.{true}
 use mathlib.Core.List.{List}
 use lib.ListN.{length}
-use Rattle.lists.proofs.Parting.{part-length}
-use Rattle.text.specs.Texts.{printable}
-use Rattle.forms.specs.Cards.{cardAt, cardsIn}
-use Rattle.forms.proofs.Steps.{card-ends}
-use Rattle.seeking.proofs.Bytes.{bad-none}
-use Rattle.header.specs.declared.Checked.the-variants.{Accepted}
-use Rattle.header.specs.Refusing.{refusalOf}
+use Rattle.base_lists.proofs.Parting.{part-length}
+use Rattle.value_text.specs.text.Texts.{printable}
+use Rattle.header_check.specs.forms.Cards.{cardAt, cardsIn}
+use Rattle.header_check.proofs.forms.Steps.{card-ends}
+use Rattle.card_field.proofs.seeking.Bytes.{bad-none}
+use Rattle.header_check.specs.declared.Checked.the-variants.{Accepted}
+use Rattle.header_check.specs.Refusing.{refusalOf}
 use Rattle.header_laws.proofs.Rows.{fine-exactly}
 use Rattle.header_laws.proofs.Exactly.{accepted-exactly}
 

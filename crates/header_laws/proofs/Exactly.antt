@@ -7,16 +7,16 @@ use mathlib.Core.Logic.{_↔_}
 use mathlib.Core.List.{List}
 use mathlib.Core.Bool.{true, false, not, true≢false}
 use lib.ListN.{length}
-use Rattle.lists.specs.Count.{first}
-use Rattle.lists.proofs.Finding.{first-le, first-below, first-passes, first-unique, first-none}
-use Rattle.seeking.specs.declared.Refusal.{Refusal}
-use Rattle.seeking.specs.Card.{refusal}
-use Rattle.card.specs.declared.Verdict.{Verdict}
-use Rattle.card.specs.declared.Verdict.the-variants.{Fine, Offence}
-use Rattle.forms.specs.Cards.{cardsIn}
-use Rattle.header.specs.declared.Checked.the-variants.{Accepted, Refused}
-use Rattle.header.specs.Refusing.{largest, verdictAt, isFine, offends, answerFor, answerAt, cardsAnswer, refusalOf}
-use Rattle.header.proofs.Lengths.{no-bytes, odd-bytes, too-many, by-cards}
+use Rattle.base_lists.specs.Count.{first}
+use Rattle.base_lists.proofs.Finding.{first-le, first-below, first-passes, first-unique, first-none}
+use Rattle.base_refusal.specs.declared.Refusal.{Refusal}
+use Rattle.base_refusal.specs.Refusals.{refusal}
+use Rattle.card_check.specs.declared.Verdict.{Verdict}
+use Rattle.card_check.specs.declared.Verdict.the-variants.{Fine, Offence}
+use Rattle.header_check.specs.forms.Cards.{cardsIn}
+use Rattle.header_check.specs.declared.Checked.the-variants.{Accepted, Refused}
+use Rattle.header_check.specs.Refusing.{largest, verdictAt, isFine, offends, answerFor, answerAt, cardsAnswer, refusalOf}
+use Rattle.header_check.proofs.Lengths.{no-bytes, odd-bytes, too-many, by-cards}
 
 -- the length is that of at least one card, of whole ones, and of not too many
 pub record Sized (h : List ℕ) : Type 0 where

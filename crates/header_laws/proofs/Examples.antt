@@ -4,36 +4,36 @@ use Prim.Native.String.{String}
 use mathlib.Core.Path.{_≡_, refl}
 use mathlib.Core.List.{List, [], _∷_, _++_, map}
 use lib.ListN.{take, replicate}
-use Rattle.lists.specs.Count.{count, first, firstFrom}
-use Rattle.lists.specs.Parts.{alike, part}
-use Rattle.digits.specs.Figures.{blanks, unpadded, leading, behind, valueFrom}
-use Rattle.number.specs.Reading.{pointOf, figuresOf, heldOf as numberHeld, signOf, numberOf as readNumber}
-use Rattle.signs.specs.Signs.{signedOf}
-use Rattle.text.specs.Texts.{textEnd, textOf, leadingBlank}
-use Rattle.date.specs.Calendar.{isLeap, isShort, daysIn, isDate}
-use Rattle.date.specs.Dates.{datedOf, dateOf}
-use Rattle.position.specs.Angles.{paddedOf, partsOf, isSpelled, angledOf, angleOf}
-use Rattle.axes.specs.Axes.{boundOf, letterOf}
-use Rattle.grid.specs.Grid.{presentOf, gridOf}
-use Rattle.spelling.specs.Reading.{textReading, wholeReading, decimalReading, dateReading, angleReading, readingOf}
-use Rattle.layout.specs.Shape.{bytes}
-use Rattle.layout.specs.Table.{layouts, passedCodes}
-use Rattle.codes.specs.Codes.{byteFits, fitsAt, fits, codes, placeIn, codeAt, codeOf}
-use Rattle.layout.specs.Layouts.{layoutAt, fieldsOf, labelOf}
-use Rattle.ranges.specs.Ranges.{inRange}
-use Rattle.seeking.specs.Card.{refusal}
-use Rattle.printable.specs.Bytes.{firstBad}
-use Rattle.judging.specs.Fields.{spellingOf, valueOf, heldOf, judgedOf}
-use Rattle.needing.specs.Needs.{columnsOf, isBlank, anySecond, neededOn}
-use Rattle.card.specs.Judging.{fieldOffence, filledAt, gapOffence, columnOffence, labelStands, labelOffence, offenceAt}
-use Rattle.card.specs.Judging.{verdictAt as columnVerdict, verdictFrom, codeVerdict, verdictOf}
-use Rattle.forms.specs.Cards.{cardAt, cardsIn, byteIn, layoutOf}
-use Rattle.forms.specs.Forms.{formSaid, onlyForm, statesLine, statesGrid, lineForm, gridForm, formOf}
-use Rattle.header.specs.declared.Checked.{Checked}
-use Rattle.header.specs.declared.Checked.the-variants.{Accepted, Refused}
-use Rattle.header.specs.Opening.{mayFollow, inPlace, layoutBefore, standsAt}
-use Rattle.header.specs.Refusing.{readable, placedVerdict, endVerdict, verdictAt, offends}
-use Rattle.header.specs.Refusing.{answerFor, answerAt, cardsAnswer, refusalOf}
+use Rattle.base_lists.specs.Count.{count, first, firstFrom}
+use Rattle.base_lists.specs.Parts.{alike, part}
+use Rattle.base_digits.specs.digits.Figures.{blanks, unpadded, leading, behind, valueFrom}
+use Rattle.value_number.specs.number.Reading.{pointOf, figuresOf, heldOf as numberHeld, signOf, numberOf as readNumber}
+use Rattle.base_digits.specs.signs.Signs.{signedOf}
+use Rattle.value_text.specs.text.Texts.{textEnd, textOf, leadingBlank}
+use Rattle.value_date.specs.Calendar.{isLeap, isShort, daysIn, isDate}
+use Rattle.value_date.specs.Dates.{datedOf, dateOf}
+use Rattle.value_coordinate.specs.angle.Angles.{paddedOf, partsOf, isSpelled, angledOf, angleOf}
+use Rattle.value_coordinate.specs.axes.Axes.{boundOf, letterOf}
+use Rattle.value_coordinate.specs.grid.Grid.{presentOf, gridOf}
+use Rattle.value_field.specs.spelling.Reading.{textReading, wholeReading, readingOf}
+use Rattle.format_layout.specs.Shape.{bytes}
+use Rattle.format_layout.specs.Table.{layouts, passedCodes}
+use Rattle.format_code.specs.Codes.{byteFits, fitsAt, fits, codes, placeIn, codeAt, codeOf}
+use Rattle.format_layout.specs.Layouts.{layoutAt, fieldsOf, labelOf}
+use Rattle.format_layout.specs.ranges.Ranges.{inRange}
+use Rattle.base_refusal.specs.Refusals.{refusal}
+use Rattle.value_text.specs.printable.Bytes.{firstBad}
+use Rattle.card_field.specs.judging.Fields.{spellingOf, valueOf, heldOf, judgedOf}
+use Rattle.card_field.specs.needing.Needs.{columnsOf, isBlank, anySecond, neededOn}
+use Rattle.card_check.specs.Judging.{fieldOffence, filledAt, gapOffence, columnOffence, labelStands, labelOffence, offenceAt}
+use Rattle.card_check.specs.Judging.{verdictAt as columnVerdict, verdictFrom, codeVerdict, verdictOf}
+use Rattle.header_check.specs.forms.Cards.{cardAt, cardsIn, byteIn, layoutOf}
+use Rattle.header_check.specs.forms.Forms.{formSaid, onlyForm, statesLine, statesGrid, lineForm, gridForm, formOf}
+use Rattle.header_check.specs.declared.Checked.{Checked}
+use Rattle.header_check.specs.declared.Checked.the-variants.{Accepted, Refused}
+use Rattle.header_check.specs.Opening.{mayFollow, inPlace, layoutBefore, standsAt}
+use Rattle.header_check.specs.Refusing.{readable, placedVerdict, endVerdict, verdictAt, offends}
+use Rattle.header_check.specs.Refusing.{answerFor, answerAt, cardsAnswer, refusalOf}
 
 -- texts as cards, each with blanks behind it up to column 80
 abbrev cards : List String → List ℕ
@@ -114,7 +114,7 @@ cases =
 pub all-answered : map (λ (k : Case). refusalOf (k .header)) cases ≡ map (λ (k : Case). k .answer) cases
 unfolding count first firstFrom alike part blanks unpadded leading behind valueFrom pointOf figuresOf signedOf numberHeld
     signOf readNumber textEnd textOf leadingBlank isLeap isShort daysIn isDate datedOf dateOf paddedOf partsOf isSpelled
-    angledOf angleOf boundOf letterOf presentOf gridOf textReading wholeReading decimalReading dateReading angleReading
+    angledOf angleOf boundOf letterOf presentOf gridOf textReading wholeReading
     readingOf layouts passedCodes byteFits fitsAt fits codes placeIn codeAt codeOf layoutAt fieldsOf labelOf inRange firstBad
     columnsOf isBlank spellingOf anySecond neededOn valueOf heldOf judgedOf fieldOffence filledAt gapOffence columnOffence
     labelStands labelOffence offenceAt columnVerdict verdictFrom codeVerdict verdictOf cardAt cardsIn byteIn layoutOf formSaid

@@ -8,20 +8,21 @@ use mathlib.Core.List.{List}
 use mathlib.Core.Bool.{Bool, true, false, cond, _&&_}
 use lib.Dec.{eqb, ltb}
 use lib.ListN.{length, take}
-use Rattle.codes.specs.Codes.{codeOf}
-use Rattle.printable.specs.Bytes.{firstBad}
+use Rattle.format_code.specs.Codes.{codeOf}
+use Rattle.value_text.specs.printable.Bytes.{firstBad}
 use borrow.Author.Tests.{eq-eqb, ne-eqb, lt-ltb, le-ltb}
-use Rattle.lists.specs.Count.{count, first, Rearranged}
-use Rattle.lists.proofs.Counting.{count-none, count-one}
-use Rattle.lists.proofs.Moving.{count-moved}
-use Rattle.lists.proofs.Finding.{first-below, first-passes}
-use Rattle.card.specs.declared.Form.{Form}
-use Rattle.card.specs.declared.Verdict.the-variants.{Fine, Offence}
-use Rattle.forms.specs.Cards.{cardAt, cardsIn, byteIn, layoutOf, waypointCard}
-use Rattle.forms.specs.Forms.{formSaid, onlyForm, statesLine, statesGrid, lineForm, gridForm, formOf}
-use Rattle.header.specs.declared.Checked.the-variants.{Accepted}
-use Rattle.header.specs.Opening.{openingCards, mayFollow, inPlace, layoutBefore, standsAt}
-use Rattle.header.specs.Refusing.{isUnknown, readable, placedVerdict, endVerdict, verdictAt, refusalOf}
+use Rattle.base_lists.specs.Count.{count, first, Rearranged}
+use Rattle.base_lists.proofs.Counting.{count-none, count-one}
+use Rattle.base_lists.proofs.Moving.{count-moved}
+use Rattle.base_lists.proofs.Finding.{first-below, first-passes}
+use Rattle.format_layout.specs.declared.Form.{Form}
+use Rattle.card_check.specs.declared.Verdict.the-variants.{Fine, Offence}
+use Rattle.header_check.specs.forms.Cards.{cardAt, cardsIn, byteIn, layoutOf}
+use Rattle.format_layout.specs.Names.{H00X9}
+use Rattle.header_check.specs.forms.Forms.{formSaid, onlyForm, statesLine, statesGrid, lineForm, gridForm, formOf}
+use Rattle.header_check.specs.declared.Checked.the-variants.{Accepted}
+use Rattle.header_check.specs.Opening.{openingCards, mayFollow, inPlace, layoutBefore, standsAt}
+use Rattle.header_check.specs.Refusing.{isUnknown, readable, placedVerdict, endVerdict, verdictAt, refusalOf}
 use Rattle.header_laws.proofs.Exactly.{Sized, Fine-throughout, accepted-exactly}
 use Rattle.header_laws.proofs.Opens.{Opens, layoutsIn, opens-exactly}
 
@@ -58,7 +59,7 @@ pub record Moved (h h′ : List ℕ) : Type 0 where
   pub end : ℕ
   pub covers : openingCards ≤ end
   pub kept : (c : ℕ) → c < end → order .to c ≡ c
-  pub behind : (c : ℕ) → end ≤ c → c < cardsIn h → waypointCard < layoutOf (cardAt h c)
+  pub behind : (c : ℕ) → end ≤ c → c < cardsIn h → H00X9 < layoutOf (cardAt h c)
 
 module _ (h h′ : List ℕ) (m : Moved h h′) where
   same-count : cardsIn h′ ≡ cardsIn h
@@ -105,7 +106,7 @@ module _ (h h′ : List ℕ) (m : Moved h h′) where
   ]
 
   -- and there it is in place, wherever
-  anywhere : (c k before : ℕ) → openingCards ≤ c → waypointCard < k → inPlace c k before ≡ true
+  anywhere : (c k before : ℕ) → openingCards ≤ c → H00X9 < k → inPlace c k before ≡ true
   unfolding inPlace mayFollow
   anywhere c k before l q =
       rw (le-ltb c 9 l, le-ltb k 8 (omega arith), ne-eqb k 8 (λ r. omega arith), ne-eqb k 9 (λ r. omega arith))
@@ -115,7 +116,7 @@ module _ (h h′ : List ℕ) (m : Moved h h′) where
   place-moved c k = elim (decLt c (m .end)) [
     | yes l ↦ rw (m .kept c l, kept-card c l k, kept-before c l k)
     | no l ↦
-        let q : waypointCard < layoutOf (cardAt h c) = m .behind c (omega arith) k in
+        let q : H00X9 < layoutOf (cardAt h c) = m .behind c (omega arith) k in
         anywhere (m .order .to c) (layoutOf (cardAt h′ (m .order .to c))) (layoutBefore h′ (m .order .to c))
         (omega (arith, still-behind c (omega arith) k, m .covers)) (rw (m .same-card c k) q)
         ∙ sym (anywhere c (layoutOf (cardAt h c)) (layoutBefore h c) (omega (arith, m .covers)) q)

@@ -8,8 +8,9 @@ use mathlib.Core.List.{List}
 use mathlib.Core.Bool.{true, _||_, true≢false}
 use lib.Dec.{eqb}
 use borrow.Author.Tests.{eq-eqb, ne-eqb, lt-ltb, le-ltb, eqb-true}
-use Rattle.forms.specs.Cards.{cardAt, layoutOf, lineCard, waypointCard}
-use Rattle.header.specs.Opening.{openingCards, mayFollow, inPlace, layoutBefore, standsAt}
+use Rattle.header_check.specs.forms.Cards.{cardAt, layoutOf}
+use Rattle.format_layout.specs.Names.{H00X8, H00X9}
+use Rattle.header_check.specs.Opening.{openingCards, mayFollow, inPlace, layoutBefore, standsAt}
 
 -- of n cards with these layouts, the first eight are the layouts 0 to 7, then come lines (H00@8), one at least, then
 -- waypoints (H00@9) up to the end of the block, and none of these stands behind it
@@ -20,9 +21,9 @@ pub record Opens (layout : ℕ → ℕ) (n : ℕ) : Type 0 where
   pub ordered : lines ≤ end
   pub inside : end ≤ n
   pub eight : (c : ℕ) → c < 8 → layout c ≡ c
-  pub line : (c : ℕ) → 8 ≤ c → c < lines → layout c ≡ lineCard
-  pub waypoint : (c : ℕ) → lines ≤ c → c < end → layout c ≡ waypointCard
-  pub later : (c : ℕ) → end ≤ c → c < n → waypointCard < layout c
+  pub line : (c : ℕ) → 8 ≤ c → c < lines → layout c ≡ H00X8
+  pub waypoint : (c : ℕ) → lines ≤ c → c < end → layout c ≡ H00X9
+  pub later : (c : ℕ) → end ≤ c → c < n → H00X9 < layout c
 
 -- a layout k that may follow b
 data Follows (k b : ℕ) : Type 0 where

@@ -10,22 +10,22 @@ use mathlib.Core.Bool.{Bool, true, false, cond}
 use lib.Dec.{ltb}
 use lib.ListN.{length, take}
 use borrow.Author.Tests.{lt-ltb, le-ltb}
-use Rattle.lists.proofs.Parting.{part-length}
-use Rattle.codes.specs.declared.Code.{Code}
-use Rattle.codes.specs.declared.Code.the-variants as code
-use Rattle.codes.specs.Codes.{codeOf}
-use Rattle.printable.specs.Bytes.{firstBad}
-use Rattle.card.specs.declared.Form.{Form}
-use Rattle.card.specs.declared.Verdict.the-variants.{Fine, Offence}
-use Rattle.card.specs.Judging.{offenceAt, verdictFrom, codeVerdict}
-use Rattle.card.proofs.Leftmost.{decides, passes, ends, skips}
-use Rattle.card.proofs.Ways.{verdict-coded}
-use Rattle.card.proofs.Verdicts.{First, first-offence, fine-everywhere}
-use Rattle.forms.specs.Cards.{cardAt, cardsIn}
-use Rattle.forms.specs.Forms.{formOf}
-use Rattle.forms.proofs.Steps.{card-ends}
-use Rattle.header.specs.Opening.{openingCards, standsAt}
-use Rattle.header.specs.Refusing.{isUnknown, readable, placedVerdict, endVerdict, verdictAt}
+use Rattle.base_lists.proofs.Parting.{part-length}
+use Rattle.format_code.specs.declared.Code.{Code}
+use Rattle.format_code.specs.declared.Code.the-variants as code
+use Rattle.format_code.specs.Codes.{codeOf}
+use Rattle.value_text.specs.printable.Bytes.{firstBad}
+use Rattle.format_layout.specs.declared.Form.{Form}
+use Rattle.card_check.specs.declared.Verdict.the-variants.{Fine, Offence}
+use Rattle.card_check.specs.Judging.{offenceAt, verdictFrom, codeVerdict}
+use Rattle.card_check.proofs.Leftmost.{decides, passes, ends, skips}
+use Rattle.card_check.proofs.Ways.{verdict-coded}
+use Rattle.card_check.proofs.Verdicts.{First, first-offence, fine-everywhere}
+use Rattle.header_check.specs.forms.Cards.{cardAt, cardsIn}
+use Rattle.header_check.specs.forms.Forms.{formOf}
+use Rattle.header_check.proofs.forms.Steps.{card-ends}
+use Rattle.header_check.specs.Opening.{openingCards, standsAt}
+use Rattle.header_check.specs.Refusing.{isUnknown, readable, placedVerdict, endVerdict, verdictAt}
 
 -- what a card in its place or not is refused for
 pub data Row (s : List ℕ) (form : Form) (placed : Bool) : ℕ → ℕ → Type 0 where

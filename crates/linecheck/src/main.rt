@@ -1,5 +1,7 @@
 // The crew's program: reads a header from standard input, and writes what the check says of it.
-use intake::Input;
+use crew_answer::lines;
+use crew_io::input;
+use crew_io::input::Input;
 use libc::STDOUT_FILENO;
 
 // The longest header, and one card more to notice a longer one.
@@ -8,7 +10,7 @@ const ROOM: usize = 64080;
 // Writes the answer to a header in one go.
 fn reply(header: &[u8]) {
     let mut out = [0u8; lines::LONGEST];
-    let n = telling::tell(header, &mut out);
+    let n = crew_answer::tell(header, &mut out);
     if !io::write_all(STDOUT_FILENO, &out[..n]) {
         os::fail(b"linecheck: standard output");
     }
@@ -16,7 +18,7 @@ fn reply(header: &[u8]) {
 
 fn main() {
     let mut buf = [0u8; ROOM];
-    let input = intake::read_all(&mut buf);
+    let input = input::read_all(&mut buf);
     match input {
         Input::Whole(n) => reply(&buf[..n]),
         Input::Failed => os::fail(b"linecheck: standard input"),

@@ -1,7 +1,11 @@
 // The crew's program for people: each line that linecheck writes of a header, followed by what it means.
-use intake::Input;
-use seeking::Refusal;
-use ties::Ties;
+use base_refusal::Refusal;
+use crew_answer::lines;
+use crew_fault::places;
+use crew_io::input;
+use crew_io::input::Input;
+use crew_io::page;
+use tie_check::Ties;
 
 // The longest header, and one card more to notice a longer one.
 const ROOM: usize = 64080;
@@ -49,7 +53,7 @@ fn explain(
         return n;
     }
     let at = (lines - 1) * lines::ENTRY;
-    showing::tell_fault(out, n, header, keys, list[at], list[at + 1], list[at + 2])
+    crew_fault::tell_fault(out, n, header, keys, list[at], list[at + 1], list[at + 2])
 }
 
 // Puts linecheck's text as it is, and each entry's explanation behind its line.
@@ -59,7 +63,7 @@ fn show_lines(out: &mut [u8], text: &[u8], header: &[u8], keys: &[u64], list: &[
     let mut i = 0;
     while i < text.len() {
         let b = text[i];
-        let put = sheet::push(out, end, b);
+        let put = page::push(out, end, b);
         end = explain(out, put, header, keys, list, lines, b);
         lines = ended(lines, b);
         i += 1;
@@ -80,14 +84,14 @@ fn show_broken(out: &mut [u8], header: &[u8], found: usize, list: &[u32]) -> usi
 fn show_refused(out: &mut [u8], header: &[u8], refusal: Refusal) -> usize {
     let mut text = [0u8; LINE];
     let size = lines::spell_refused(&mut text, refusal.number, refusal.card, refusal.column);
-    let said = sheet::push_all(out, 0, &text[..size]);
-    reasons::tell_refusal(out, said, header, refusal)
+    let said = page::push_all(out, 0, &text[..size]);
+    crew_refusal::tell_refusal(out, said, header, refusal)
 }
 
 // Checks a header, and shows what the check says.
 fn show(out: &mut [u8], header: &[u8]) -> usize {
     let mut list = [0u32; LIST];
-    let ties = ties::check(header, &mut list);
+    let ties = tie_check::check(header, &mut list);
     match ties {
         Ties::Found(n) => show_broken(out, header, n, &list),
         Ties::Refused(refusal) => show_refused(out, header, refusal),
@@ -98,14 +102,14 @@ fn show(out: &mut [u8], header: &[u8]) -> usize {
 fn reply(header: &[u8]) {
     let mut out = [0u8; PAGE];
     let n = show(&mut out, header);
-    if !sheet::finish(&out, n) {
+    if !page::finish(&out, n) {
         os::fail(b"lineshow: standard output");
     }
 }
 
 fn main() {
     let mut buf = [0u8; ROOM];
-    let input = intake::read_all(&mut buf);
+    let input = input::read_all(&mut buf);
     match input {
         Input::Whole(n) => reply(&buf[..n]),
         Input::Failed => os::fail(b"lineshow: standard input"),

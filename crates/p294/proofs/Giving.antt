@@ -6,9 +6,9 @@ use lib.IntN.{ℤ}
 use lib.ListN.{length, set}
 use mir.Syntax.{w64}
 use mir.Val.{toZ, ofZ, SFits}
-use Rattle.lists.proofs.Laying.{stored-sets, stored-full}
-use Rattle.answers.specs.declared.Reply.{Reply}
-use Rattle.answers.proofs.Steps.{back}
+use Rattle.base_lists.proofs.Laying.{stored-sets, stored-full}
+use Rattle.p294.specs.declared.answers.Reply.{Reply}
+use Rattle.p294.proofs.answers.Steps.{back}
 use Rattle.p294.specs.Given.{given}
 
 -- no room for the numbers

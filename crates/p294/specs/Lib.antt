@@ -1,1 +1,3 @@
 pub mod Given
+pub mod answers
+pub mod offered

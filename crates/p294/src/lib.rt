@@ -1,17 +1,21 @@
 // The doors for programs in other languages: each takes numbers and bytes, and answers in numbers. include/p294.h says
-// what each number means; crate `answers` defines it.
-use answers::Reply;
+// what each number means; `answers` defines it.
+pub mod answers;
+pub mod offered;
+
+use crate::answers::Reply;
+use card_put::opening;
 ghost use mathlib.Core.Path.{_≡_};
 ghost use lib.ListN.{length};
-ghost use Rattle.field.specs.Reading.{fieldReading};
-ghost use Rattle.opening.specs.Opening.{openedOf, openedCard};
-ghost use Rattle.entry.specs.Putting.{answerOf, leftBy, puttingOf, puttingTextOf};
-ghost use Rattle.header.specs.Refusing.{refusalOf};
-ghost use Rattle.broken.specs.Faults.{faults, entries};
-ghost use Rattle.ties.specs.Answer.{answerFor, listFor};
-ghost use Rattle.questions.specs.Questions.{definitionsFor, placeFor};
-ghost use Rattle.offers.specs.Offers.{offeredOf, keyOf, keyTextOf};
-ghost use Rattle.answers.specs.Replies.{fieldReply, textReply, enteredReply, openedReply, tiesReply, definitionsReply, placeReply};
+ghost use Rattle.card_field.specs.Reading.{fieldReading};
+ghost use Rattle.card_put.specs.opening.Opening.{openedOf, openedCard};
+ghost use Rattle.card_put.specs.Putting.{answerOf, leftBy, puttingOf, puttingTextOf};
+ghost use Rattle.header_check.specs.Refusing.{refusalOf};
+ghost use Rattle.tie_rules.specs.Faults.{faults, entries};
+ghost use Rattle.tie_check.specs.Answer.{answerFor, listFor};
+ghost use Rattle.tie_lookup.specs.questions.Questions.{definitionsFor, placeFor};
+ghost use Rattle.p294.specs.offered.Offers.{offeredOf, keyOf, keyTextOf};
+ghost use Rattle.p294.specs.answers.Replies.{fieldReply, textReply, enteredReply, openedReply, tiesReply, definitionsReply, placeReply};
 ghost use Rattle.p294.specs.Given.{given};
 
 // How many numbers go with an answer.
@@ -39,7 +43,7 @@ fn give(numbers: &mut [i64], reply: Reply) -> i64
 fn reading(card: &[u8], number: usize, form: usize) -> Reply
     ensures { λ r. ⌜ r ≡ fieldReply (fieldReading (now (card .entry)) number form) ⌝ }
 {
-    answers::of_field(field::read_field(card, number, form))
+    answers::of_field(card_field::read_field(card, number, form))
 }
 
 // What stands in the field with a number, its coordinates in the form that is given.
@@ -103,8 +107,8 @@ pub extern "C" fn p294_put(
     ensures card { λ _. ⌜ now (card .exit)
         ≡ leftBy (puttingOf (now (card .entry)) number form (offeredOf kind a b c)) (now (card .entry)) ⌝ }
 {
-    let value = offers::offered(kind, a, b, c);
-    let reply = answers::of_entered(entry::put(card, number, form, value));
+    let value = offered::offered(kind, a, b, c);
+    let reply = answers::of_entered(card_put::put(card, number, form, value));
     give(numbers, reply)
 }
 
@@ -124,7 +128,7 @@ pub extern "C" fn p294_put_text(
     ensures card { λ _. ⌜ now (card .exit)
         ≡ leftBy (puttingTextOf (now (card .entry)) number form (now (text .entry))) (now (card .entry)) ⌝ }
 {
-    let reply = answers::of_entered(entry::put_text(card, number, form, text));
+    let reply = answers::of_entered(card_put::put_text(card, number, form, text));
     give(numbers, reply)
 }
 
@@ -138,7 +142,7 @@ pub extern "C" fn p294_check(header: &[u8], list: &mut [u32], numbers: &mut [i64
     ensures list { λ _. ⌜ now (list .exit)
         ≡ listFor (refusalOf (now (header .entry))) (now (list .entry)) (entries (faults (now (header .entry)))) ⌝ }
 {
-    let reply = answers::of_ties(ties::check(header, list));
+    let reply = answers::of_ties(tie_check::check(header, list));
     give(numbers, reply)
 }
 
@@ -158,9 +162,9 @@ pub extern "C" fn p294_definitions(
     ensures numbers { λ _. ⌜ now (numbers .exit)
         ≡ given (now (numbers .entry)) (definitionsReply (definitionsFor (now (header .entry)) class (keyOf kind a b) (keyTextOf kind (now (text .entry))))) ⌝ }
 {
-    let key = offers::key_of(kind, a, b);
-    let bytes = offers::key_text(kind, text);
-    let reply = answers::of_definitions(lookups::definitions_of(header, class, key, bytes));
+    let key = offered::key_of(kind, a, b);
+    let bytes = offered::key_text(kind, text);
+    let reply = answers::of_definitions(tie_lookup::definitions_of(header, class, key, bytes));
     give(numbers, reply)
 }
 
@@ -180,8 +184,8 @@ pub extern "C" fn p294_place(
     ensures numbers { λ _. ⌜ now (numbers .exit)
         ≡ given (now (numbers .entry)) (placeReply (placeFor (now (header .entry)) class (keyOf kind a b) (keyTextOf kind (now (text .entry))))) ⌝ }
 {
-    let wanted = offers::key_of(kind, a, b);
-    let spelled = offers::key_text(kind, text);
-    let reply = answers::of_place(lookups::place_of(header, class, wanted, spelled));
+    let wanted = offered::key_of(kind, a, b);
+    let spelled = offered::key_text(kind, text);
+    let reply = answers::of_place(tie_lookup::place_of(header, class, wanted, spelled));
     give(numbers, reply)
 }

@@ -6,11 +6,11 @@ use mathlib.Core.Path.{_≡_, refl, sym, ap, _∙_}
 use mathlib.Core.Bool.{Bool, true, false, false≢true}
 use mathlib.Core.List.{List, [], _∷_, _++_, map, flatMap, map-append, map-map, append-assoc, append-nil}
 use mathlib.Core.List.{List·Memᴰ, List·Memᴰ·head, List·Memᴰ·tail}
-use Rattle.lists.specs.Parts.{keep, kept, upTo}
-use Rattle.lists.proofs.Keeping.{kept-append, kept-map, kept-same, out-of-kept, out-of-upTo}
-use Rattle.lists.proofs.Entries.{entries-more}
-use Rattle.forms.specs.Cards.{cardAt, cardsIn, layoutOf}
-use Rattle.broken.specs.Faults.{broken, triples, brokenAt, entryOf, faults}
+use Rattle.base_lists.specs.Parts.{keep, kept, upTo}
+use Rattle.base_lists.proofs.Keeping.{kept-append, kept-map, kept-same, out-of-kept, out-of-upTo}
+use Rattle.base_lists.proofs.Entries.{entries-more}
+use Rattle.header_check.specs.forms.Cards.{cardAt, cardsIn, layoutOf}
+use Rattle.tie_rules.specs.Faults.{broken, triples, brokenAt, entryOf, faults}
 use Rattle.tie_laws.proofs.Sites.{Within, isSite, at-site}
 use Rattle.tie_laws.proofs.Complete.{listOf}
 

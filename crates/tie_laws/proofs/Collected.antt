@@ -5,13 +5,13 @@ use mathlib.Core.Bool.{Bool, true, false, _&&_}
 use mathlib.Core.List.{List, [], _∷_, map}
 use lib.Dec.{eqb}
 use lib.ListN.{length, length-map}
-use Rattle.lists.specs.Count.{count}
-use Rattle.lists.specs.Parts.{alike, keep, kept, upTo}
-use Rattle.lists.proofs.Counting.{count-same}
-use Rattle.lists.proofs.Keeping.{kept-map, length-kept}
-use Rattle.keys.specs.Roles.{defines}
-use Rattle.keys.specs.Keys.{classAt, keyAt, holdsKey, definesKey, vesselOf, contradict}
-use Rattle.broken.specs.Definitions.{places, cardOf, columnOf, definedAt, definitionsOf, contradictionsOf}
+use Rattle.base_lists.specs.Count.{count}
+use Rattle.base_lists.specs.Parts.{alike, keep, kept, upTo}
+use Rattle.base_lists.proofs.Counting.{count-same}
+use Rattle.base_lists.proofs.Keeping.{kept-map, length-kept}
+use Rattle.tie_rules.specs.Ties.{defines}
+use Rattle.tie_rules.specs.Keys.{classAt, keyAt, holdsKey, definesKey, vesselOf, contradict}
+use Rattle.tie_rules.specs.Definitions.{places, cardOf, columnOf, definedAt, definitionsOf, contradictionsOf}
 
 -- a definition: class, key, and the vessel digit of its card
 pub record Definition : Type 0 where

@@ -8,15 +8,15 @@ use mathlib.Core.Logic.{_↔_, _⊎_, inl, inr}
 use mathlib.Core.Bool.{true}
 use mathlib.Core.List.{List, [], _∷_, _++_, map, flatMap, List·Memᴰ, Memᴰ·cast, Memᴰ·map, Memᴰ·of-map}
 use lib.ListN.{length, getD, length-map}
-use Rattle.lists.specs.Count.{count}
-use Rattle.lists.specs.Laid.{laid}
-use Rattle.lists.specs.Parts.{part, upTo}
-use Rattle.lists.proofs.Keeping.{out-of-kept, into-kept, length-kept, out-of-upTo, into-upTo}
-use Rattle.lists.proofs.Rising.{rising-kept, rising-upTo, rising-order}
-use Rattle.lists.proofs.Laying.{fitting-entries, length-laid, laid-entry, laid-past}
-use Rattle.lists.proofs.Entries.{length-entries, part-entries}
-use Rattle.forms.specs.Cards.{cardsIn}
-use Rattle.broken.specs.Faults.{kinds, broken, triples, brokenAt, entryOf, faults, entries}
+use Rattle.base_lists.specs.Count.{count}
+use Rattle.base_lists.specs.Laid.{laid}
+use Rattle.base_lists.specs.Parts.{part, upTo}
+use Rattle.base_lists.proofs.Keeping.{out-of-kept, into-kept, length-kept, out-of-upTo, into-upTo}
+use Rattle.base_lists.proofs.Rising.{rising-kept, rising-upTo, rising-order}
+use Rattle.base_lists.proofs.Laying.{fitting-entries, length-laid, laid-entry, laid-past}
+use Rattle.base_lists.proofs.Entries.{length-entries, part-entries}
+use Rattle.header_check.specs.forms.Cards.{cardsIn}
+use Rattle.tie_rules.specs.Faults.{kinds, broken, triples, brokenAt, entryOf, faults, entries}
 use Rattle.tie_laws.proofs.Sites.{broken-bounds}
 
 -- the list as entries of three numbers: the card, counted from 1, the column, the kind
@@ -83,7 +83,7 @@ entry-size : (t : ℕ) → length (entryOf t) ≡ 3
 unfolding entryOf
 entry-size t = refl
 
--- the entries, each after the other, in the words of `lists`
+-- the entries, each after the other, as a flat map
 pub entries-flat : (l : List ℕ) → entries l ≡ flatMap entryOf l
 unfolding entries flatMap
 entries-flat [] = refl

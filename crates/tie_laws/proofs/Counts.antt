@@ -8,20 +8,21 @@ use lib.Dec.{eqb}
 use lib.IntN.{pos, negsuc}
 use lib.ListN.{getD}
 use borrow.Author.Tests.{eq-eqb, eqb-true}
-use Rattle.spelling.specs.declared.Value.the-variants.{Absent, Whole, Decimal, Angle, Date, Text}
-use Rattle.spelling.specs.declared.Reading.{Reading}
-use Rattle.spelling.specs.declared.Reading.the-variants.{Held, Malformed, OutOfRange}
-use Rattle.spelling.specs.declared.Spelling.the-variants as spelled
-use Rattle.spelling.specs.Reading.{readingOf}
-use Rattle.lists.specs.Parts.{alike}
-use Rattle.lists.proofs.Comparing.{equal-alike, unequal-alike}
-use Rattle.forms.specs.Cards.{cardAt, layoutOf}
-use Rattle.keys.specs.Roles.{H00X8, H0100}
-use Rattle.keys.specs.Keys.{isNone, between, wholeKey, wholeIn}
-use Rattle.broken.specs.Definitions.{waypointsOf, pointsOf}
-use Rattle.broken.specs.Faults.{differs, miscounted, brokenOn, broken}
+use Rattle.base_value.specs.declared.Value.the-variants.{Absent, Whole, Decimal, Angle, Date, Text}
+use Rattle.base_value.specs.declared.Reading.{Reading}
+use Rattle.base_value.specs.declared.Reading.the-variants.{Held, Malformed, OutOfRange}
+use Rattle.value_field.specs.declared.spelling.Spelling.the-variants as spelled
+use Rattle.value_field.specs.spelling.Reading.{readingOf}
+use Rattle.base_lists.specs.Parts.{alike}
+use Rattle.base_lists.proofs.Comparing.{equal-alike, unequal-alike}
+use Rattle.header_check.specs.forms.Cards.{cardAt, layoutOf}
+use Rattle.format_layout.specs.Names.{H00X8, H0100}
+use Rattle.tie_rules.specs.Keys.{isNone, between, wholeKey, wholeIn}
+use Rattle.tie_rules.specs.Definitions.{waypointsOf, pointsOf}
+use Rattle.tie_rules.specs.Faults.{differs, miscounted, brokenOn, broken}
 use Rattle.tie_laws.proofs.Tests.{both, either}
-use Rattle.tie_laws.proofs.Sites.{statesCount, isSite, at-site}
+use Rattle.tie_rules.specs.Ties.{statesCount}
+use Rattle.tie_laws.proofs.Sites.{isSite, at-site}
 
 -- a whole number stands in the columns of a card, and it is not n
 pub record States-another (s : List ℕ) (first last n : ℕ) : Type 0 where
@@ -66,7 +67,7 @@ module _ (h : List ℕ) (c : ℕ) where
   -- it stands in column 79 of H00@8 or column 16 of H0100
   pub count-columns : (column : ℕ) → broken h c column 5 ≡ true
       → ((layoutOf (cardAt h c) ≡ H00X8) × (column ≡ 79)) ⊎ ((layoutOf (cardAt h c) ≡ H0100) × (column ≡ 16))
-  unfolding broken isSite
+  unfolding broken isSite statesCount
   count-columns column e = go (at-site h (cardAt h c) column 5 e)
     where
       fixed : (k i : ℕ) → (eqb (layoutOf (cardAt h c)) k && eqb column i) ≡ true → (layoutOf (cardAt h c) ≡ k) × (column ≡ i)

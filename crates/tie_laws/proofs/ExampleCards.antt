@@ -3,7 +3,7 @@ use Prim.Native.Nat.{ℕ, _+_, _-_}
 use Prim.Native.String.{String}
 use mathlib.Core.List.{List, [], _∷_, _++_}
 use lib.ListN.{length, take, drop, replicate}
-use Rattle.layout.specs.Shape.{bytes}
+use Rattle.format_layout.specs.Shape.{bytes}
 
 -- a text that begins in a column
 pub record Piece : Type 0 where

@@ -4,23 +4,23 @@ use mathlib.Core.Path.{_≡_, refl, ap, ap₂, _∙_}
 use mathlib.Core.Bool.{_&&_}
 use mathlib.Core.List.{List, [], _∷_, _++_, map, flatMap}
 use lib.ListN.{length, getD}
-use Rattle.lists.specs.Count.{count}
-use Rattle.lists.specs.Parts.{alike, part, kept, upTo}
-use Rattle.lists.proofs.Entries.{entries-append}
-use Rattle.digits.specs.Figures.{blanks, unpadded, leading, behind, valueFrom}
-use Rattle.signs.specs.Signs.{signedOf}
-use Rattle.number.specs.Reading.{pointOf, figuresOf, heldOf, signOf, numberOf}
-use Rattle.text.specs.Texts.{textEnd, textOf}
-use Rattle.spelling.specs.Reading.{wholeReading, readingOf}
-use Rattle.layout.specs.Shape.{bytes}
-use Rattle.layout.specs.Table.{layouts, passedCodes}
-use Rattle.codes.specs.Codes.{byteFits, fitsAt, fits, codes, placeIn, codeAt, codeOf}
-use Rattle.forms.specs.Cards.{cardAt, cardsIn, byteIn, layoutOf}
-use Rattle.keys.specs.Roles.{ties, lineIn, lineFor, hasVessel}
-use Rattle.keys.specs.Keys.{isNone, between, wholeKey, wholeIn, paired, keyIn, classAt, keyAt, holdsKey, vesselOf, contradict}
-use Rattle.broken.specs.Definitions.{places, cardOf, columnOf, definitionsOf, contradictionsOf}
-use Rattle.broken.specs.Faults.{definitionsAt, undefined, redefined, ambiguous, statesVessel, contradicted, differs, miscounted}
-use Rattle.broken.specs.Faults.{brokenOn, broken}
+use Rattle.base_lists.specs.Count.{count}
+use Rattle.base_lists.specs.Parts.{alike, part, kept, upTo}
+use Rattle.base_lists.proofs.Entries.{entries-append}
+use Rattle.base_digits.specs.digits.Figures.{blanks, unpadded, leading, behind, valueFrom}
+use Rattle.base_digits.specs.signs.Signs.{signedOf}
+use Rattle.value_number.specs.number.Reading.{pointOf, figuresOf, heldOf, signOf, numberOf}
+use Rattle.value_text.specs.text.Texts.{textEnd, textOf}
+use Rattle.value_field.specs.spelling.Reading.{wholeReading, readingOf}
+use Rattle.format_layout.specs.Shape.{bytes}
+use Rattle.format_layout.specs.Table.{layouts, passedCodes}
+use Rattle.format_code.specs.Codes.{byteFits, fitsAt, fits, codes, placeIn, codeAt, codeOf}
+use Rattle.header_check.specs.forms.Cards.{cardAt, cardsIn, byteIn, layoutOf}
+use Rattle.tie_rules.specs.Ties.{ties, lineIn, lineFor, hasVessel, statesOwn, statesCount}
+use Rattle.tie_rules.specs.Keys.{isNone, between, wholeKey, wholeIn, paired, keyIn, classAt, keyAt, holdsKey, vesselOf, contradict}
+use Rattle.tie_rules.specs.Definitions.{places, cardOf, columnOf, definitionsOf, contradictionsOf}
+use Rattle.tie_rules.specs.Faults.{definitionsAt, undefined, redefined, ambiguous, contradicted, differs, miscounted}
+use Rattle.tie_rules.specs.Faults.{brokenOn, broken}
 use Rattle.tie_laws.proofs.Complete.{listOf}
 use Rattle.tie_laws.proofs.Sites.{hasLine, isSite}
 use Rattle.tie_laws.proofs.CardByCard.{siteEntry, sitesOf, entriesOn, card-by-card}
@@ -94,7 +94,7 @@ against = against-times 2 (1 ∷ []) 2
 -- cards 1 to 8 have no column that could carry a fault
 first-eight : flatMap (entriesOn example) (upTo 8) ≡ []
 unfolding kept part upTo flatMap layouts passedCodes byteFits fitsAt fits codes placeIn codeAt codeOf cardAt layoutOf ties
-    lineIn lineFor hasLine isSite sitesOf entriesOn example
+    lineIn lineFor hasLine statesOwn statesCount isSite sitesOf entriesOn example
 first-eight = refl
 
 -- the other five, the sites of their layouts, and the faults there
@@ -126,7 +126,7 @@ fiveSites = lineSites ∷ streamerSites ∷ nodeSites ∷ nodeSites ∷ compassS
 
 their-sites : map (λ s. sitesOf (layoutOf s)) five ≡ fiveSites
 unfolding kept upTo layouts passedCodes byteFits fitsAt fits codes placeIn codeAt codeOf layoutOf ties lineIn lineFor hasLine
-    isSite sitesOf
+    statesOwn statesCount isSite sitesOf
 their-sites = refl
 
 -- the entries of a card by its bytes, from some sites
@@ -151,7 +151,7 @@ their-entries :
 unfolding alike kept blanks unpadded leading behind valueFrom signedOf pointOf figuresOf heldOf signOf numberOf textEnd textOf
     wholeReading readingOf layouts passedCodes byteFits fitsAt fits codes placeIn codeAt codeOf byteIn layoutOf ties lineIn
     lineFor hasVessel isNone between wholeKey wholeIn paired keyIn classAt keyAt holdsKey vesselOf definitionsAt undefined
-    redefined ambiguous statesVessel contradicted differs miscounted brokenOn entriesFrom
+    redefined ambiguous statesOwn contradicted differs miscounted brokenOn entriesFrom
 their-entries = rw (one-line, one-streamer, two-nodes, one-node, serial-17, serial-18, no-serial, not-against, against)
 
 other-five : flatMap (entriesOn example) (8 ∷ 9 ∷ 10 ∷ 11 ∷ 12 ∷ []) ≡ four

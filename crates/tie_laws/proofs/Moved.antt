@@ -7,26 +7,16 @@ use mathlib.Core.Bool.{Bool, _&&_}
 use mathlib.Core.List.{List, [], _∷_}
 use lib.Dec.{eqb}
 use lib.ListN.{length, take}
-use Rattle.lists.specs.Count.{count, carried, Rearranged}
-use Rattle.lists.specs.Parts.{alike}
-use Rattle.lists.proofs.Moving.{count-moved, spread}
-use Rattle.forms.specs.Cards.{cardAt, cardsIn, layoutOf}
-use Rattle.keys.specs.Roles.{defines, refers, H0101}
-use Rattle.keys.specs.Keys.{classAt, keyAt, holdsKey, definesKey, vesselOf, contradict, wholeIn}
-use Rattle.broken.specs.Definitions.{places, cardOf, columnOf, definedAt, definitionsOf, placeOf}
-use Rattle.broken.specs.Definitions.{contradictionsOf, waypointAt, waypointsOf, pointsOf}
-use Rattle.broken.specs.Faults.{
-  definitionsAt,
-  undefined,
-  redefined,
-  ambiguous,
-  contradicted,
-  miscounted,
-  brokenOn,
-  broken,
-  triples,
-  brokenAt,
-}
+use Rattle.base_lists.specs.Count.{count, carried, Rearranged}
+use Rattle.base_lists.specs.Parts.{alike}
+use Rattle.base_lists.proofs.Moving.{count-moved, spread}
+use Rattle.header_check.specs.forms.Cards.{cardAt, cardsIn, layoutOf}
+use Rattle.tie_rules.specs.Ties.{defines, refers}
+use Rattle.format_layout.specs.Names.{H0101}
+use Rattle.tie_rules.specs.Keys.{classAt, keyAt, holdsKey, definesKey, vesselOf, contradict, wholeIn}
+use Rattle.tie_rules.specs.Definitions.{places, cardOf, columnOf, definedAt, definitionsOf, placeOf}
+use Rattle.tie_rules.specs.Definitions.{contradictionsOf, waypointAt, waypointsOf, pointsOf}
+use Rattle.tie_rules.specs.Faults.{definitionsAt, undefined, redefined, ambiguous, contradicted, miscounted, brokenOn, broken, triples, brokenAt}
 use Rattle.tie_laws.proofs.Complete.{listOf, Fault, how-many}
 use Rattle.tie_laws.proofs.Places.{one-exactly, place-named, place-only, no-place-exactly}
 

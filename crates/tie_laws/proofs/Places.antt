@@ -8,12 +8,12 @@ use mathlib.Core.Bool.{Bool, true, false, true≢false}
 use mathlib.Core.List.{List, [], _∷_}
 use lib.ListN.{getD}
 use borrow.Author.Tests.{eq-eqb, ne-eqb}
-use Rattle.lists.specs.Count.{bit, count, first}
-use Rattle.lists.proofs.Counting.{count-none, none-pass, count-one, count-some}
-use Rattle.lists.proofs.Finding.{first-below, first-passes}
-use Rattle.forms.specs.Cards.{cardAt, cardsIn}
-use Rattle.keys.specs.Keys.{definesKey}
-use Rattle.broken.specs.Definitions.{places, cardOf, columnOf, definedAt, definitionsOf, placeOf}
+use Rattle.base_lists.specs.Count.{bit, count, first}
+use Rattle.base_lists.proofs.Counting.{count-none, none-pass, count-one, count-some}
+use Rattle.base_lists.proofs.Finding.{first-below, first-passes}
+use Rattle.header_check.specs.forms.Cards.{cardAt, cardsIn}
+use Rattle.tie_rules.specs.Keys.{definesKey}
+use Rattle.tie_rules.specs.Definitions.{places, cardOf, columnOf, definedAt, definitionsOf, placeOf}
 
 -- where one passes at least, the first that does is below n
 pub first-there : (p : ℕ → Bool) (n : ℕ) → 1 ≤ count p n → first p n < n

@@ -9,15 +9,15 @@ use mathlib.Core.Bool.{Bool, true, false, _&&_, not, true≢false}
 use mathlib.Core.List.{List, [], _∷_}
 use lib.Dec.{eqb, ltb}
 use borrow.Author.Tests.{eq-eqb, eqb-true, lt-ltb, ltb-true}
-use Rattle.lists.specs.Count.{count, first}
-use Rattle.lists.proofs.Comparing.{equal-alike, unequal-alike}
-use Rattle.lists.proofs.Counting.{count-one, count-some}
-use Rattle.lists.proofs.Finding.{first-passes}
-use Rattle.forms.specs.Cards.{cardAt, cardsIn}
-use Rattle.keys.specs.Roles.{defines, refers}
-use Rattle.keys.specs.Keys.{classAt, keyAt, holdsKey, definesKey, vesselOf, contradict, wholeIn}
-use Rattle.broken.specs.Definitions.{places, cardOf, columnOf, definedAt, definitionsOf, placeOf, contradictionsOf}
-use Rattle.broken.specs.Faults.{definitionsAt, undefined, redefined, ambiguous, statesVessel, contradicted, brokenOn, broken}
+use Rattle.base_lists.specs.Count.{count, first}
+use Rattle.base_lists.proofs.Comparing.{equal-alike, unequal-alike}
+use Rattle.base_lists.proofs.Counting.{count-one, count-some}
+use Rattle.base_lists.proofs.Finding.{first-passes}
+use Rattle.header_check.specs.forms.Cards.{cardAt, cardsIn, layoutOf}
+use Rattle.tie_rules.specs.Ties.{defines, refers, statesOwn}
+use Rattle.tie_rules.specs.Keys.{classAt, keyAt, holdsKey, definesKey, vesselOf, contradict, wholeIn}
+use Rattle.tie_rules.specs.Definitions.{places, cardOf, columnOf, definedAt, definitionsOf, placeOf, contradictionsOf}
+use Rattle.tie_rules.specs.Faults.{definitionsAt, undefined, redefined, ambiguous, contradicted, brokenOn, broken}
 use Rattle.tie_laws.proofs.Tests.{both}
 use Rattle.tie_laws.proofs.Places.{Defines, Only, Elsewhere, numberOf, first-there, pair-there, to-number, of-number}
 use Rattle.tie_laws.proofs.Places.{at-least-one, one-exactly, several-exactly, place-named, place-only, no-place-exactly}
@@ -148,7 +148,7 @@ module _ (h : List ℕ) (c column : ℕ) where
             fails (broken h c column 2) (λ x. omega (arith, redefined-exactly .0 x .1))
 
   -- kind 4 where a card states its own vessel: the digit of its code is another
-  pub own-vessel-exactly : statesVessel (cardAt h c) column ≡ true
+  pub own-vessel-exactly : statesOwn (layoutOf (cardAt h c)) column ≡ true
       → (broken h c column 4 ≡ true) ↔ (wholeIn column column (cardAt h c) ≡ vesselOf (cardAt h c) ∷ [] → ⊥)
   unfolding broken brokenOn contradicted
   own-vessel-exactly states = rw states (
@@ -215,7 +215,7 @@ module _ (h : List ℕ) (c column : ℕ) where
   key = keyAt refers (cardAt h c) column
 
   -- kind 4 elsewhere: a reference with one definition, on a card whose vessel digit is there and another
-  pub contradicted-exactly : statesVessel (cardAt h c) column ≡ false
+  pub contradicted-exactly : statesOwn (layoutOf (cardAt h c)) column ≡ false
       → (broken h c column 4 ≡ true)
       ↔ ((holdsKey refers (cardAt h c) column ≡ true)
       × ((card : ℕ) × (place : ℕ) × Only h class key card place

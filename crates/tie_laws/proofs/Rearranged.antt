@@ -5,10 +5,10 @@ use mathlib.Core.Path.{_≡_}
 use mathlib.Core.Logic.{_↔_}
 use mathlib.Core.List.{List}
 use lib.ListN.{length}
-use Rattle.lists.specs.Count.{Rearranged}
-use Rattle.forms.specs.Cards.{cardAt, cardsIn}
-use Rattle.header.specs.declared.Checked.the-variants.{Accepted}
-use Rattle.header.specs.Refusing.{refusalOf}
+use Rattle.base_lists.specs.Count.{Rearranged}
+use Rattle.header_check.specs.forms.Cards.{cardAt, cardsIn}
+use Rattle.header_check.specs.declared.Checked.the-variants.{Accepted}
+use Rattle.header_check.specs.Refusing.{refusalOf}
 use Rattle.header_laws.proofs.Moved.{Moved, accepted-moved, accepted-opens, accepted-rearranged}
 use Rattle.tie_laws.proofs.Complete.{listOf, Fault}
 use Rattle.tie_laws.proofs.Moved.{Reordered, fault-moved, as-many-faults}

@@ -9,31 +9,15 @@ use mathlib.Core.List.{List, [], _∷_, _++_}
 use lib.Dec.{eqb, leb}
 use lib.ListN.{length, take, drop, length-take}
 use borrow.Author.Tests.{eqb-true, leb-true, le-leb}
-use Rattle.lists.specs.Parts.{alike}
-use Rattle.lists.proofs.Comparing.{alike-equal}
-use Rattle.text.specs.Texts.{textEnd, textOf}
-use Rattle.spelling.specs.declared.Spelling.the-variants as spelled
-use Rattle.spelling.specs.Reading.{readingOf}
-use Rattle.forms.specs.Cards.{cardAt, layoutOf}
-use Rattle.keys.specs.Roles.{
-  Source,
-  digit,
-  whole,
-  serial,
-  waypoint,
-  only,
-  nothing,
-  Role,
-  defines,
-  Tie,
-  classes,
-  ties,
-  isFor,
-  lineIn,
-  lineFor,
-}
-use Rattle.keys.specs.Keys.{isNone, between, wholeIn, paired, keyIn, classAt, keyAt, holdsKey, definesKey}
-use Rattle.broken.specs.Definitions.{definitionsOf}
+use Rattle.base_lists.specs.Parts.{alike}
+use Rattle.base_lists.proofs.Comparing.{alike-equal}
+use Rattle.value_text.specs.text.Texts.{textEnd, textOf}
+use Rattle.value_field.specs.declared.spelling.Spelling.the-variants as spelled
+use Rattle.value_field.specs.spelling.Reading.{readingOf}
+use Rattle.header_check.specs.forms.Cards.{cardAt, layoutOf}
+use Rattle.tie_rules.specs.Ties.{Source, digit, whole, serial, waypoint, only, nothing, Role, defines, Tie, classes, ties, isFor, lineIn, lineFor}
+use Rattle.tie_rules.specs.Keys.{isNone, between, wholeIn, paired, keyIn, classAt, keyAt, holdsKey, definesKey}
+use Rattle.tie_rules.specs.Definitions.{definitionsOf}
 use Rattle.tie_laws.proofs.Tests.{both}
 use Rattle.tie_laws.proofs.Sites.{gives}
 use Rattle.tie_laws.proofs.Places.{none-exactly}

@@ -7,40 +7,11 @@ use mathlib.Core.Bool.{Bool, true, false, cond, _&&_, _||_, not, false≢true}
 use mathlib.Core.List.{List, [], _∷_}
 use lib.Dec.{eqb, leb}
 use borrow.Author.Tests.{eqb-true, leb-true}
-use Rattle.forms.specs.Cards.{cardAt, layoutOf}
-use Rattle.keys.specs.Roles.{
-  Source,
-  digit,
-  whole,
-  serial,
-  waypoint,
-  only,
-  nothing,
-  Role,
-  defines,
-  refers,
-  sameRole,
-  Tie,
-  ties,
-  isFor,
-  lineIn,
-  lineFor,
-  H00X8,
-  H00X9,
-  H0100,
-}
-use Rattle.keys.specs.Keys.{isNone, keyIn, keyAt, holdsKey}
-use Rattle.broken.specs.Faults.{
-  undefined,
-  redefined,
-  ambiguous,
-  statesVessel,
-  contradicted,
-  miscounted,
-  kinds,
-  brokenOn,
-  broken,
-}
+use Rattle.header_check.specs.forms.Cards.{cardAt, layoutOf}
+use Rattle.tie_rules.specs.Ties.{Source, digit, whole, serial, waypoint, only, nothing, Role, defines, refers, sameRole, Tie, ties, isFor, lineIn, lineFor, statesOwn, statesCount}
+use Rattle.format_layout.specs.Names.{H00X8, H0100}
+use Rattle.tie_rules.specs.Keys.{isNone, keyIn, keyAt, holdsKey}
+use Rattle.tie_rules.specs.Faults.{undefined, redefined, ambiguous, contradicted, miscounted, kinds, brokenOn, broken}
 use Rattle.tie_laws.proofs.Tests.{both, either}
 
 -- a source that gives a key at all
@@ -55,13 +26,6 @@ gives nothing = false
 -- the table has a line for a role of a column of a layout
 unfoldable pub hasLine : Role → ℕ → ℕ → Bool
 hasLine r k column = gives (lineFor r k column .source)
-
--- a column of a layout states its card's vessel, or a count
-abbrev pub statesOwn : ℕ → ℕ → Bool
-statesOwn k column = (eqb k H00X8 && eqb column 30) || (eqb k H00X9 && eqb column 7)
-
-abbrev pub statesCount : ℕ → ℕ → Bool
-statesCount k column = (eqb k H00X8 && eqb column 79) || (eqb k H0100 && eqb column 16)
 
 -- where a fault of a kind can stand on a card with a layout
 unfoldable pub isSite : ℕ → ℕ → ℕ → Bool
@@ -107,7 +71,7 @@ module _ (h s : List ℕ) (column : ℕ) where
   at-definition b e = needs-line defines s column (within-and (holdsKey defines s column) b e)
 
   at-vessel : Within (contradicted h s column) (statesOwn (layoutOf s) column || hasLine refers (layoutOf s) column)
-  unfolding contradicted statesVessel
+  unfolding contradicted
   at-vessel = go (statesOwn (layoutOf s) column) _ _ _ (at-reference _)
     where
       go : (t a b x : Bool) → Within b x → Within (cond t a b) (t || x)
@@ -115,7 +79,7 @@ module _ (h s : List ℕ) (column : ℕ) where
       go false a b x f = f
 
   at-count : Within (miscounted h s column) (statesCount (layoutOf s) column)
-  unfolding miscounted
+  unfolding miscounted statesCount
   at-count = go (eqb (layoutOf s) H00X8 && eqb column 79) (eqb (layoutOf s) H0100) (eqb column 16) _ _
     where
       go : (t u v a b : Bool) → Within (cond t a (u && v && b)) (t || (u && v))
@@ -180,9 +144,11 @@ states-column a b k column i j e = ⊎-elim
     (either (eqb k a && eqb column i) (eqb k b && eqb column j) e)
 
 own-column : (k column : ℕ) → statesOwn k column ≡ true → IsColumn column
+unfolding statesOwn
 own-column k column e = ⊎-elim (λ x. omega arith) (λ x. omega arith) (states-column 8 9 k column 30 7 e)
 
 count-column : (k column : ℕ) → statesCount k column ≡ true → IsColumn column
+unfolding statesCount
 count-column k column e = ⊎-elim (λ x. omega arith) (λ x. omega arith) (states-column 8 12 k column 79 16 e)
 
 chosen : (kind n : ℕ) (a b : Bool) → cond (eqb kind n) a b ≡ true → ((kind ≡ n) × (a ≡ true)) ⊎ (b ≡ true)

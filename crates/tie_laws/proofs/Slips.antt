@@ -8,34 +8,18 @@ use lib.Dec.{eqb, leb}
 use lib.ListN.{take, set}
 use lib.Seq.{drop-set-lt, getD-set-other}
 use borrow.Author.Tests.{leb-true, eqb-true}
-use Rattle.lists.specs.Parts.{alike, part}
-use Rattle.lists.proofs.Comparing.{alike-equal}
-use Rattle.digits.specs.Figures.{blanks, unpadded, leading, behind, valueFrom}
-use Rattle.signs.specs.Signs.{signedOf}
-use Rattle.number.specs.Reading.{pointOf, figuresOf, heldOf, signOf, numberOf}
-use Rattle.spelling.specs.Reading.{wholeReading, readingOf}
-use Rattle.layout.specs.Table.{layouts, passedCodes}
-use Rattle.codes.specs.Codes.{byteFits, fitsAt, fits, codes, placeIn, codeAt, codeOf}
-use Rattle.forms.specs.Cards.{cardAt, cardsIn, byteIn, layoutOf}
-use Rattle.keys.specs.Roles.{
-  Source,
-  digit,
-  whole,
-  serial,
-  waypoint,
-  only,
-  nothing,
-  Role,
-  defines,
-  refers,
-  Tie,
-  ties,
-  isFor,
-  lineIn,
-  lineFor,
-}
-use Rattle.keys.specs.Keys.{isNone, between, wholeKey, wholeIn, keyIn, classAt, keyAt, holdsKey, definesKey}
-use Rattle.broken.specs.Definitions.{placeOf}
+use Rattle.base_lists.specs.Parts.{alike, part}
+use Rattle.base_lists.proofs.Comparing.{alike-equal}
+use Rattle.base_digits.specs.digits.Figures.{blanks, unpadded, leading, behind, valueFrom}
+use Rattle.base_digits.specs.signs.Signs.{signedOf}
+use Rattle.value_number.specs.number.Reading.{pointOf, figuresOf, heldOf, signOf, numberOf}
+use Rattle.value_field.specs.spelling.Reading.{wholeReading, readingOf}
+use Rattle.format_layout.specs.Table.{layouts, passedCodes}
+use Rattle.format_code.specs.Codes.{byteFits, fitsAt, fits, codes, placeIn, codeAt, codeOf}
+use Rattle.header_check.specs.forms.Cards.{cardAt, cardsIn, byteIn, layoutOf}
+use Rattle.tie_rules.specs.Ties.{Source, digit, whole, serial, waypoint, only, nothing, Role, defines, refers, Tie, ties, isFor, lineIn, lineFor}
+use Rattle.tie_rules.specs.Keys.{isNone, between, wholeKey, wholeIn, keyIn, classAt, keyAt, holdsKey, definesKey}
+use Rattle.tie_rules.specs.Definitions.{placeOf}
 use Rattle.tie_laws.proofs.Tests.{both}
 use Rattle.tie_laws.proofs.Complete.{listOf, broken-listed}
 use Rattle.tie_laws.proofs.Places.{Defines, Elsewhere, Differ, one-exactly, place-named}

@@ -6,41 +6,15 @@ use mathlib.Core.Bool.{Bool, true, false, _&&_, _||_}
 use mathlib.Core.List.{List, [], _∷_, map}
 use lib.Dec.{eqb}
 use lib.ListN.{length, getD}
-use Rattle.lists.specs.Parts.{upTo}
-use Rattle.layout.specs.Shape.{bytes, Layout}
-use Rattle.layout.specs.declared.Kind.{Kind}
-use Rattle.layout.specs.declared.Kind.the-variants.{Text, Comment, Whole, Decimal, Date, Latitude, Longitude}
-use Rattle.layout.specs.declared.Field.{Field}
-use Rattle.layout.specs.Table.{layouts}
-use Rattle.layout.specs.Layouts.{layoutAt, fieldsOf}
-use Rattle.keys.specs.Roles.{
-  Source,
-  digit,
-  whole,
-  serial,
-  waypoint,
-  only,
-  nothing,
-  Tie,
-  ties,
-  lineIn,
-  lineFor,
-  hasVessel,
-  H00X8,
-  H00X9,
-  H0100,
-  H0101,
-  H011X,
-  H0120,
-  H17X0,
-  H17X1,
-  H21X0,
-  H21X1,
-  H21X2,
-  H21X3,
-  H22X0,
-  H23X0,
-}
+use Rattle.base_lists.specs.Parts.{upTo}
+use Rattle.format_layout.specs.Shape.{bytes, Layout}
+use Rattle.format_layout.specs.declared.Kind.{Kind}
+use Rattle.format_layout.specs.declared.Kind.the-variants.{Text, Comment, Whole, Decimal, Date, Latitude, Longitude}
+use Rattle.format_layout.specs.declared.Field.{Field}
+use Rattle.format_layout.specs.Table.{layouts}
+use Rattle.format_layout.specs.Layouts.{layoutAt, fieldsOf}
+use Rattle.tie_rules.specs.Ties.{Source, digit, whole, serial, waypoint, only, nothing, Tie, ties, lineIn, lineFor, hasVessel}
+use Rattle.format_layout.specs.Names.{H00X8, H00X9, H0100, H0101, H011X, H0120, H17X0, H17X1, H21X0, H21X1, H21X2, H21X3, H22X0, H23X0}
 
 -- the names of the layouts are those of their codes, with X for @ or #
 pub named : map (λ k. layoutAt k .code) (

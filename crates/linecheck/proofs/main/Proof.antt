@@ -2,16 +2,12 @@
 use Prim.Native.Nat.{ℕ, _≤_}
 use mathlib.Core.Path.{_≡_, sym, subst}
 use lib.Seq.{length-take-le}
-use Rattle.intake.specs.declared.Input.{Input}
-use Rattle.intake.specs.declared.Input.the-variants.{Whole}
-use Rattle.intake.specs.Sizes.{sizeOf}
+use Rattle.crew_io.specs.declared.input.Input.{Input}
+use Rattle.crew_io.specs.declared.input.Input.the-variants.{Whole}
+use Rattle.crew_io.specs.input.Sizes.{sizeOf}
 use borrow.Author.Needs.{needs}
 use Rattle.linecheck.proofs.main.Statement.{statement}
 use Rattle.linecheck.proofs.main.Tie as tie
-use Rattle.linecheck.proofs.main.Reads as reads
-use Rattle.linecheck.proofs.main.Lts as lts
-use Rattle.linecheck.proofs.reply.Reads as reply-reads
-use Rattle.os.proofs.fail.Reads as fail-reads
 
 within : (x : Input) (n : ℕ) → x ≡ Whole n → sizeOf x ≤ 64080 → n ≤ 64080
 within x n e h = subst (λ (i : Input). sizeOf i ≤ 64080) e h

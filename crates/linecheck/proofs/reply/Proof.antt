@@ -4,11 +4,6 @@ use lib.Seq.{length-take-le}
 use borrow.Author.Needs.{needs}
 use Rattle.linecheck.proofs.reply.Statement.{statement}
 use Rattle.linecheck.proofs.reply.Tie as tie
-use Rattle.linecheck.proofs.reply.Reads as reads
-use Rattle.linecheck.proofs.reply.Lts as lts
-use Rattle.io.proofs.write_all.Reads as write-all-reads
-use Rattle.os.proofs.fail.Reads as fail-reads
-use Rattle.telling.proofs.tell.Reads as tell-reads
 
 -- src/main.rt:62:35
 slice-aggregate-tell : tie.Need-slice-aggregate-tell

@@ -2,9 +2,9 @@
 use Prim.Native.Nat.{ℕ, _≤_}
 use mathlib.Core.Path.{_≡_, sym, subst}
 use lib.Seq.{length-take-le}
-use Rattle.intake.specs.declared.Input.{Input}
-use Rattle.intake.specs.declared.Input.the-variants.{Whole}
-use Rattle.intake.specs.Sizes.{sizeOf}
+use Rattle.crew_io.specs.declared.input.Input.{Input}
+use Rattle.crew_io.specs.declared.input.Input.the-variants.{Whole}
+use Rattle.crew_io.specs.input.Sizes.{sizeOf}
 use borrow.Author.Needs.{needs}
 use Rattle.lineshow.proofs.main.Statement.{statement}
 use Rattle.lineshow.proofs.main.Tie as tie

@@ -3,13 +3,11 @@ use mathlib.Core.Path.{refl}
 use native.Mathlib.Omega.{arith}
 use denote.Ref.{now}
 use lib.ListN.{length-set}
-use Rattle.answers.proofs.Steps.{back}
+use Rattle.p294.proofs.answers.Steps.{back}
 use Rattle.p294.proofs.Giving.{not-given, all-given}
 use borrow.Author.Needs.{needs}
 use Rattle.p294.proofs.give.Statement.{statement}
 use Rattle.p294.proofs.give.Tie as tie
-use Rattle.p294.proofs.give.Reads as reads
-use Rattle.p294.proofs.give.Lts as lts
 
 -- src/lib.rt:192:9
 returns : tie.Need-returns

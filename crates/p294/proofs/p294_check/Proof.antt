@@ -1,16 +1,11 @@
 -- `p294::p294_check` meets its contract.
 use denote.Ref.{now}
 use mathlib.Core.Path.{ap, _∙_}
-use Rattle.answers.specs.Replies.{tiesReply}
+use Rattle.p294.specs.answers.Replies.{tiesReply}
 use Rattle.p294.proofs.Giving.{answered}
 use borrow.Author.Needs.{needs}
 use Rattle.p294.proofs.p294_check.Statement.{statement}
 use Rattle.p294.proofs.p294_check.Tie as tie
-use Rattle.p294.proofs.p294_check.Reads as reads
-use Rattle.p294.proofs.p294_check.Lts as lts
-use Rattle.p294.proofs.give.Reads as give-reads
-use Rattle.answers.proofs.of_ties.Reads as of-ties-reads
-use Rattle.ties.proofs.check.Reads as check-reads
 
 -- src/lib.rt:112:34
 check-requires : tie.Need-check-requires

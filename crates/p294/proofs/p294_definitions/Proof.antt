@@ -3,20 +3,13 @@ use denote.Ref.{now}
 use mathlib.Core.Path.{ap, _∙_}
 use mir.Syntax.{w64}
 use mir.ValLaws.{toZ-ofZ}
-use Rattle.questions.specs.Questions.{definitionsFor}
-use Rattle.offers.proofs.Steps.{same-key, asked}
-use Rattle.answers.specs.Replies.{definitionsReply}
+use Rattle.tie_lookup.specs.questions.Questions.{definitionsFor}
+use Rattle.p294.proofs.offered.Steps.{same-key, asked}
+use Rattle.p294.specs.answers.Replies.{definitionsReply}
 use Rattle.p294.proofs.Giving.{answered}
 use borrow.Author.Needs.{needs}
 use Rattle.p294.proofs.p294_definitions.Statement.{statement}
 use Rattle.p294.proofs.p294_definitions.Tie as tie
-use Rattle.p294.proofs.p294_definitions.Reads as reads
-use Rattle.p294.proofs.p294_definitions.Lts as lts
-use Rattle.p294.proofs.give.Reads as give-reads
-use Rattle.answers.proofs.of_definitions.Reads as of-definitions-reads
-use Rattle.offers.proofs.key_of.Reads as key-of-reads
-use Rattle.offers.proofs.key_text.Reads as key-text-reads
-use Rattle.lookups.proofs.definitions_of.Reads as definitions-of-reads
 
 -- src/lib.rt:133:9
 key-of-requires : tie.Need-key-of-requires

@@ -1,16 +1,11 @@
 -- `p294::p294_open` meets its contract.
 use denote.Ref.{now}
 use mathlib.Core.Path.{ap, _∙_}
-use Rattle.answers.specs.Replies.{openedReply}
+use Rattle.p294.specs.answers.Replies.{openedReply}
 use Rattle.p294.proofs.Giving.{answered}
 use borrow.Author.Needs.{needs}
 use Rattle.p294.proofs.p294_open.Statement.{statement}
 use Rattle.p294.proofs.p294_open.Tie as tie
-use Rattle.p294.proofs.p294_open.Reads as reads
-use Rattle.p294.proofs.p294_open.Lts as lts
-use Rattle.p294.proofs.give.Reads as give-reads
-use Rattle.answers.proofs.of_opened.Reads as of-opened-reads
-use Rattle.opening.proofs.open.Reads as open-reads
 
 -- src/lib.rt:54:36
 open-requires : tie.Need-open-requires

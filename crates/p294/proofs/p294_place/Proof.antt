@@ -3,20 +3,13 @@ use denote.Ref.{now}
 use mathlib.Core.Path.{ap, _∙_}
 use mir.Syntax.{w64}
 use mir.ValLaws.{toZ-ofZ}
-use Rattle.questions.specs.Questions.{placeFor}
-use Rattle.offers.proofs.Steps.{same-key, asked}
-use Rattle.answers.specs.Replies.{placeReply}
+use Rattle.tie_lookup.specs.questions.Questions.{placeFor}
+use Rattle.p294.proofs.offered.Steps.{same-key, asked}
+use Rattle.p294.specs.answers.Replies.{placeReply}
 use Rattle.p294.proofs.Giving.{answered}
 use borrow.Author.Needs.{needs}
 use Rattle.p294.proofs.p294_place.Statement.{statement}
 use Rattle.p294.proofs.p294_place.Tie as tie
-use Rattle.p294.proofs.p294_place.Reads as reads
-use Rattle.p294.proofs.p294_place.Lts as lts
-use Rattle.p294.proofs.give.Reads as give-reads
-use Rattle.answers.proofs.of_place.Reads as of-place-reads
-use Rattle.offers.proofs.key_of.Reads as key-of-reads
-use Rattle.offers.proofs.key_text.Reads as key-text-reads
-use Rattle.lookups.proofs.place_of.Reads as place-of-reads
 
 -- src/lib.rt:155:9
 key-of-requires : tie.Need-key-of-requires

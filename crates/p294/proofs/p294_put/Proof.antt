@@ -1,21 +1,15 @@
 -- `p294::p294_put` meets its contract.
 use denote.Ref.{now}
 use mathlib.Core.Path.{ap, _∙_}
-use Rattle.answers.specs.Replies.{enteredReply}
+use Rattle.p294.specs.answers.Replies.{enteredReply}
 use Rattle.p294.proofs.Giving.{answered}
 use mir.Syntax.{w64}
 use mir.ValLaws.{toZ-ofZ}
-use Rattle.entry.specs.Putting.{answerOf, leftBy, puttingOf}
-use Rattle.offers.specs.Offers.{offeredOf}
+use Rattle.card_put.specs.Putting.{answerOf, leftBy, puttingOf}
+use Rattle.p294.specs.offered.Offers.{offeredOf}
 use borrow.Author.Needs.{needs}
 use Rattle.p294.proofs.p294_put.Statement.{statement}
 use Rattle.p294.proofs.p294_put.Tie as tie
-use Rattle.p294.proofs.p294_put.Reads as reads
-use Rattle.p294.proofs.p294_put.Lts as lts
-use Rattle.p294.proofs.give.Reads as give-reads
-use Rattle.answers.proofs.of_entered.Reads as of-entered-reads
-use Rattle.entry.proofs.put.Reads as put-reads
-use Rattle.offers.proofs.offered.Reads as offered-reads
 
 -- src/lib.rt:77:9
 offered-requires : tie.Need-offered-requires

@@ -1,16 +1,11 @@
 -- `p294::p294_put_text` meets its contract.
 use denote.Ref.{now}
 use mathlib.Core.Path.{ap, _∙_}
-use Rattle.answers.specs.Replies.{enteredReply}
+use Rattle.p294.specs.answers.Replies.{enteredReply}
 use Rattle.p294.proofs.Giving.{answered}
 use borrow.Author.Needs.{needs}
 use Rattle.p294.proofs.p294_put_text.Statement.{statement}
 use Rattle.p294.proofs.p294_put_text.Tie as tie
-use Rattle.p294.proofs.p294_put_text.Reads as reads
-use Rattle.p294.proofs.p294_put_text.Lts as lts
-use Rattle.p294.proofs.give.Reads as give-reads
-use Rattle.answers.proofs.of_entered.Reads as of-entered-reads
-use Rattle.entry.proofs.put_text.Reads as put-text-reads
 
 -- src/lib.rt:98:37
 put-text-requires : tie.Need-put-text-requires

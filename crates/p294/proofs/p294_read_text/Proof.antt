@@ -1,8 +1,8 @@
 -- `p294::p294_read_text` meets its contract.
 use denote.Ref.{now}
 use mathlib.Core.Path.{ap, _∙_}
-use Rattle.answers.specs.Replies.{textAlone}
-use Rattle.answers.proofs.Steps.{text-alone}
+use Rattle.p294.specs.answers.Replies.{textAlone}
+use Rattle.p294.proofs.answers.Steps.{text-alone}
 use Rattle.p294.proofs.Giving.{answered}
 use borrow.Author.Needs.{needs}
 use Rattle.p294.proofs.p294_read_text.Statement.{statement}

@@ -1,6 +1,6 @@
 -- `p294::reading` meets its contract.
 use mathlib.Core.Path.{ap, _∙_}
-use Rattle.answers.specs.Replies.{fieldReply}
+use Rattle.p294.specs.answers.Replies.{fieldReply}
 use borrow.Author.Needs.{needs}
 use Rattle.p294.proofs.reading.Statement.{statement}
 use Rattle.p294.proofs.reading.Tie as tie

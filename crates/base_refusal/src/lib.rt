@@ -1,0 +1,63 @@
+// Why something is refused, and where: the paper's numbers, named once.
+ghost use mathlib.Core.Path.{_≡_};
+ghost use Rattle.base_refusal.specs.Refusals.{refusal};
+
+// Of a length: no bytes, no whole number of cards, more cards than a header may have.
+pub const EMPTY: usize = 1;
+
+pub const ODD_LENGTH: usize = 2;
+
+pub const TOO_MANY: usize = 3;
+
+// Of a card: a byte that is not printable, a code that is not known, a place where it may not stand.
+pub const UNPRINTABLE: usize = 4;
+
+pub const UNKNOWN: usize = 5;
+
+pub const MISPLACED: usize = 6;
+
+// Of columns: filled though no field covers them, another label than the table's.
+pub const STRAY: usize = 7;
+
+pub const MISLABELLED: usize = 8;
+
+// Of a field: badly formed, outside its range (or a form that is none), blank though needed.
+pub const MALFORMED: usize = 9;
+
+pub const OUTSIDE: usize = 10;
+
+pub const MISSING: usize = 11;
+
+// Of what a caller asks: a value of another kind than the field, no such field or class, no room in the columns.
+pub const OTHER_KIND: usize = 12;
+
+pub const NO_SUCH: usize = 13;
+
+pub const NO_ROOM: usize = 14;
+
+// A refusal's number, card and column: 0 for a card or a column where there is none.
+pub struct Refusal {
+    pub number: usize,
+    pub card: usize,
+    pub column: usize,
+}
+
+pub fn refuse(number: usize, card: usize, column: usize) -> Refusal
+    ensures { λ r. ⌜ r ≡ refusal number card column ⌝ }
+{
+    Refusal {
+        number,
+        card,
+        column,
+    }
+}
+
+// What came of writing into columns; unless it is done they are as they were.
+pub enum Written {
+    Done,
+    Unprintable,
+    Malformed,
+    OutOfRange,
+    OtherKind,
+    NoRoom,
+}

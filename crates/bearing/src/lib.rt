@@ -1,1 +1,0 @@
-// Laws only: what the numbers of the keys on printable cards tell.

@@ -1,0 +1,4 @@
+pub mod Reading
+pub mod judging
+pub mod needing
+pub mod seeking

@@ -1,0 +1,3 @@
+// Laws about one card; no functions.
+pub mod exactly;
+pub mod rewriting;

@@ -1,0 +1,38 @@
+-- The worked example of the paper: the five lines of its answer, byte by byte.
+use Prim.Native.Nat.{ℕ}
+use mathlib.Core.Path.{_≡_, refl, sym, ap, ap₂, _∙_}
+use mathlib.Core.List.{List, [], _∷_, _++_, map}
+use lib.ListN.{length, length-map}
+use Rattle.base_digits.specs.digits.Digits.{digits, sizeUpTo}
+use Rattle.tie_rules.specs.Faults.{entryOf, faults, entries}
+use Rattle.tie_laws.proofs.ExampleCards.{example}
+use Rattle.tie_laws.proofs.Example.{accepted, worked}
+use Rattle.crew_answer.specs.lines.Text.{bytes, newline, numeral, spaced, countText, entryText, entryAt, entriesText, told, brokenText}
+use Rattle.crew_answer.specs.Answer.{answerOf, answerTo}
+
+-- entries one after the other
+joined : List (List ℕ) → List ℕ
+joined [] = []
+joined (e ∷ es) = e ++ joined es
+
+entries-joined : (l : List ℕ) → entries l ≡ joined (map entryOf l)
+unfolding entries joined
+entries-joined [] = refl
+entries-joined (t ∷ l) = ap (λ r. entryOf t ++ r) (entries-joined l)
+
+four-entries : entries (faults example) ≡ 11 ∷ 11 ∷ 2 ∷ 11 ∷ 36 ∷ 2 ∷ 12 ∷ 7 ∷ 4 ∷ 13 ∷ 7 ∷ 1 ∷ []
+unfolding joined
+four-entries = entries-joined (faults example) ∙ ap joined worked
+
+four : length (faults example) ≡ 4
+four = sym (length-map (faults example) entryOf) ∙ ap length worked
+
+by-entries : answerTo example ≡ brokenText 4 (11 ∷ 11 ∷ 2 ∷ 11 ∷ 36 ∷ 2 ∷ 12 ∷ 7 ∷ 4 ∷ 13 ∷ 7 ∷ 1 ∷ [])
+unfolding answerTo answerOf
+by-entries = rw accepted (ap₂ brokenText four four-entries)
+
+pub five-lines : answerTo example
+    ≡ bytes "broken 4" ++ newline ++ bytes "11 11 2" ++ newline ++ bytes "11 36 2" ++ newline ++ bytes "12 7 4" ++ newline
+    ++ bytes "13 7 1" ++ newline
+unfolding brokenText told countText entriesText entryAt entryText spaced numeral digits sizeUpTo
+five-lines = by-entries

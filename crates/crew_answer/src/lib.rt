@@ -1,0 +1,36 @@
+// A header checked, and the whole answer to the crew spelled.
+pub mod lines;
+
+use tie_check::Ties;
+ghost use mathlib.Core.Path.{_≡_};
+ghost use Prim.Native.Nat.{_≤_};
+ghost use lib.ListN.{length};
+ghost use Rattle.base_lists.specs.Laid.{laid};
+ghost use Rattle.crew_answer.specs.Answer.{answerTo};
+
+// Three numbers for each entry that is told.
+const ROOM: usize = 12000;
+
+// Checks a header with a lent list, and spells the answer.
+fn tell_by(header: &[u8], list: &mut [u32; ROOM], out: &mut [u8]) -> usize
+    requires { ⌜ length (now list) ≡ 12000 ⌝ }
+    ensures bytes { λ _. ⌜ now (out .exit) ≡ laid 1 (now (out .entry)) (answerTo (now (header .entry))) ⌝ }
+    ensures size { λ r. ⌜ r ≡ length (answerTo (now (header .entry))) ⌝ }
+    ensures within { λ r. ⌜ r ≤ 132028 ⌝ }
+{
+    let ties = tie_check::check(header, list);
+    match ties {
+        Ties::Found(n) => lines::spell_broken(out, n, list),
+        Ties::Refused(r) => lines::spell_refused(out, r.number, r.card, r.column),
+    }
+}
+
+// Spells the answer to a header from the front of a buffer, as far as it has room, and answers how long it is.
+pub fn tell(header: &[u8], out: &mut [u8]) -> usize
+    ensures bytes { λ _. ⌜ now (out .exit) ≡ laid 1 (now (out .entry)) (answerTo (now (header .entry))) ⌝ }
+    ensures size { λ r. ⌜ r ≡ length (answerTo (now (header .entry))) ⌝ }
+    ensures within { λ r. ⌜ r ≤ 132028 ⌝ }
+{
+    let mut list = [0u32; ROOM];
+    tell_by(header, &mut list, out)
+}

@@ -1,0 +1,3 @@
+// What the crew's programs share: standard input, and a page for people.
+pub mod input;
+pub mod page;

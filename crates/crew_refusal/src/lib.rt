@@ -1,0 +1,200 @@
+// A refusal told to people: the card as it stands, a caret under the column, and one sentence for the number.
+pub mod fields;
+pub mod malformed;
+
+use base_refusal::Refusal;
+use crew_io::page;
+use format_layout::Form;
+use format_layout::label;
+use format_layout::names::H00X8;
+use format_layout::names::H00X9;
+use header_check::forms;
+
+// The cards H0000 to H0007 that open a header.
+const OPENING: usize = 8;
+
+// 2: how long the header is.
+fn push_length(out: &mut [u8], n: usize, header: &[u8]) -> usize {
+    if header.len() == 1 {
+        let words = b"The length, 1 byte, is not a whole number of cards of 80 columns.";
+        return page::push_all(out, n, words);
+    }
+    let words = b"The length, # bytes, is not a whole number of cards of 80 columns.";
+    page::push_form(out, n, words, header.len() as u64, 0, 0)
+}
+
+// Puts what the usual bytes are that are not printable.
+fn push_byte_name(out: &mut [u8], n: usize, b: u8) -> usize {
+    match b {
+        9 => page::push_all(out, n, b", a tab"),
+        10 => page::push_all(out, n, b", a line end"),
+        13 => page::push_all(out, n, b", a carriage return"),
+        _ => n,
+    }
+}
+
+// 4: which byte it is.
+fn push_unprintable(out: &mut [u8], n: usize, card: &[u8], column: usize) -> usize {
+    let byte = byte_in(card, column);
+    let words = b"The byte in column # is no printable ASCII character: its value is #";
+    let value = page::push_form(out, n, words, column as u64, byte as u64, 0);
+    let name = push_byte_name(out, value, byte);
+    page::push(out, name, b'.')
+}
+
+// The byte in a column, 0 where there is none.
+fn byte_in(card: &[u8], column: usize) -> u8 {
+    if column == 0 {
+        return 0;
+    }
+    base_lists::byte_at(card, column - 1)
+}
+
+// 5: what stands where the code should.
+fn push_unknown(out: &mut [u8], n: usize, card: &[u8]) -> usize {
+    let quote = page::push(out, n, b'"');
+    let code = page::push_code(out, quote, card);
+    page::push_all(out, code, b"\" is no code of a header card.")
+}
+
+// Puts which card has to stand at a place among the first nine.
+fn push_expected(out: &mut [u8], n: usize, place: usize) -> usize {
+    if place == 0 {
+        return n;
+    }
+    if OPENING < place {
+        return page::push_form(out, n, b"card # has to be H00@8.", place as u64, 0, 0);
+    }
+    let words = b"card # has to be H000#.";
+    page::push_form(out, n, words, place as u64, (place - 1) as u64, 0)
+}
+
+// Puts where the cards of a layout stand, of which one came too late.
+fn push_home(out: &mut [u8], n: usize, layout: usize) -> usize {
+    if layout == H00X8 {
+        return page::push_all(out, n, b"the H00@8 cards stand together, from card 9 on.");
+    }
+    if layout == H00X9 {
+        return page::push_all(
+            out,
+            n,
+            b"the H00@9 cards stand together, directly behind the H00@8 cards.",
+        );
+    }
+    if OPENING <= layout {
+        return n;
+    }
+    page::push_form(
+        out,
+        n,
+        b"it stands once, as card #.",
+        (layout + 1) as u64,
+        0,
+        0,
+    )
+}
+
+// 6: which card has to stand here, or where this one has to stand.
+fn push_misplaced(out: &mut [u8], n: usize, card: &[u8], place: usize) -> usize {
+    if card.len() == 0 {
+        let begun = page::push_all(out, n, b"The header ends before its opening cards do: ");
+        return push_expected(out, begun, place);
+    }
+    let code = page::push_code(out, n, card);
+    let begun = page::push_all(out, code, b" is out of place: ");
+    if place <= OPENING + 1 {
+        return push_expected(out, begun, place);
+    }
+    push_home(out, begun, forms::layout_of(card))
+}
+
+// 7: which column it is, and of which card.
+fn push_gap(out: &mut [u8], n: usize, card: &[u8], column: usize) -> usize {
+    let words = b"Column # belongs to no field of ";
+    let place = page::push_form(out, n, words, column as u64, 0, 0);
+    let code = page::push_code(out, place, card);
+    page::push_all(out, code, b" and has to be blank.")
+}
+
+// Puts the label of a layout.
+fn push_label(out: &mut [u8], n: usize, layout: usize) -> usize {
+    let size = label::label_length(layout);
+    let mut end = n;
+    let mut i = 0;
+    while i < size {
+        end = page::push(out, end, label::label_byte(layout, i));
+        i += 1;
+    }
+    end
+}
+
+// 8: what the label has to be.
+fn push_mislabelled(out: &mut [u8], n: usize, card: &[u8]) -> usize {
+    let words = page::push_all(out, n, b"The label of ");
+    let code = page::push_code(out, words, card);
+    let quote = page::push_all(out, code, b" has to be \"");
+    let label = push_label(out, quote, forms::layout_of(card));
+    page::push_all(out, label, b"\", from column 6 on.")
+}
+
+// The form of a card's coordinates.
+fn form_of(header: &[u8], card: &[u8], layout: usize) -> Form {
+    let notes = forms::notes_of(header);
+    forms::form_by(&notes, layout, card)
+}
+
+// 9, 10 and 11: what the field asks for.
+fn push_field(
+    out: &mut [u8],
+    n: usize,
+    header: &[u8],
+    card: &[u8],
+    number: usize,
+    column: usize,
+) -> usize {
+    let layout = forms::layout_of(card);
+    let form = form_of(header, card, layout);
+    fields::push_field(out, n, layout, form, number, column)
+}
+
+// Puts the sentence of a refusal.
+fn push_reason(
+    out: &mut [u8],
+    n: usize,
+    header: &[u8],
+    number: usize,
+    place: usize,
+    column: usize,
+) -> usize {
+    let card = page::card_in(header, place);
+    match number {
+        1 => page::push_all(out, n, b"The header is empty."),
+        2 => push_length(out, n, header),
+        3 => page::push_all(out, n, b"The header has more than 800 cards."),
+        4 => push_unprintable(out, n, card, column),
+        5 => push_unknown(out, n, card),
+        6 => push_misplaced(out, n, card, place),
+        7 => push_gap(out, n, card, column),
+        8 => push_mislabelled(out, n, card),
+        _ => push_field(out, n, header, card, number, column),
+    }
+}
+
+// Puts the card of a refusal with a caret, where there is one.
+fn push_card_if(out: &mut [u8], n: usize, card: &[u8], column: usize) -> usize {
+    if card.len() == 0 {
+        return n;
+    }
+    page::push_card(out, n, card, column)
+}
+
+// Tells why a header is refused: its card, a caret, and a sentence, each behind two blanks.
+pub fn tell_refusal(out: &mut [u8], n: usize, header: &[u8], refusal: Refusal) -> usize {
+    let number = refusal.number;
+    let place = refusal.card;
+    let column = refusal.column;
+    let shown = push_card_if(out, n, page::card_in(header, place), column);
+    let begun = page::push_all(out, shown, b"  ");
+    let told = push_reason(out, begun, header, number, place, column);
+    page::push(out, told, b'\n')
+}

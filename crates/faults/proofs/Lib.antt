@@ -1,5 +1,0 @@
--- Laws of the check of ties.
-pub mod Columns
-pub mod Order
-pub mod Walked
-pub mod Gathered

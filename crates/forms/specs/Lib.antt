@@ -1,3 +1,0 @@
-pub mod Cards
-pub mod Forms
-pub mod Notes

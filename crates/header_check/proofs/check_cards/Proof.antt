@@ -1,0 +1,178 @@
+-- `header_check::check_cards` meets its contract.
+use Prim.Native.Nat.{_+_, _*_, _-_, _/_, _≤_}
+use mathlib.Core.Path.{_≡_, refl, sym, ap, _∙_}
+use lib.ListN.{length, take, drop}
+use lib.Seq.{length-take-le}
+use denote.Ref.{now}
+use native.Mathlib.Omega.{arith}
+use borrow.Author.Needs.{needs}
+use Rattle.base_lists.specs.Count.{first, firstFrom}
+use Rattle.base_lists.proofs.Finding.{begins}
+use Rattle.header_check.specs.forms.Cards.{cardsIn, layoutOf}
+use Rattle.header_check.proofs.forms.Steps.{card-part, card-ends, card-whole, coded}
+use Rattle.header_check.specs.Opening.{layoutBefore}
+use Rattle.header_check.specs.Refusing.{verdictAt, offends}
+use Rattle.header_check.proofs.Walked.{vessel-byte, found, goes-on, ends-at, ends-past, next-before}
+use Rattle.header_check.proofs.check_cards.Statement.{statement}
+use Rattle.header_check.proofs.check_cards.Tie as tie
+
+abbrev Inv-loop : tie.InvT-loop
+Inv-loop header notes count before₀ place₀ before place = (place ≤ length header / 80) × (before ≡ layoutBefore header place)
+    × (first (offends header) (cardsIn header) ≡ firstFrom (offends header) (cardsIn header - place) place)
+
+abbrev μ-loop : tie.MeasureT-loop
+μ-loop header notes count before₀ place₀ before place = length header / 80 - place
+
+loop-holds : tie.Need-loop-holds Inv-loop μ-loop
+unfolding layoutBefore
+loop-holds c = (omega arith, refl, begins _ _)
+
+-- the card lies within the header
+within : (c : tie.In-loop Inv-loop μ-loop)
+    → c .before .loop .place * 80 + 80 ≤ length (now (c .before .before .before .args .header))
+within c = card-ends (now (c .before .before .before .args .header)) (c .before .loop .place) (c .loop-test .taken)
+
+-- what is found there is its verdict
+verdict-is : (c : tie.After-judge-placed Inv-loop μ-loop)
+    → c .judge-placed .result ≡ verdictAt (now (c .before .before .before .before .before .before .before .before .before .before .args .header))
+    (c .before .before .before .before .before .before .before .before .loop .place)
+unfolding cardsIn
+verdict-is c =
+    let coding = c .before .before .before in
+    let card = coding .before .before .before in
+    let known = card .before .before .before in
+    let b = card .before .before .loop in
+    let h = now (known .before .args .header) in
+    found h (now (known .before .args .notes)) _ (b .place) _ _ _ _ _ (known .before .pre) (card-part h (b .place))
+    (card .before .loop-test .taken) (vessel-byte h (λ i. omega (arith, known .shared-slice-known .given i)) (b .place))
+    (b .inv .1) (coded _ _ _ (coding .before .code-of .ensures) (coding .number-of .ensures)) (c .before .before .form-by .ensures)
+    (c .before .in-place .ensures) (c .judge-placed .ensures)
+
+mul-from : tie.Need-mul-from Inv-loop μ-loop
+mul-from c = omega (arith, within c)
+
+add-card : tie.Need-add-card Inv-loop μ-loop
+add-card c = omega (arith, within c)
+
+sub-card : tie.Need-sub-card Inv-loop μ-loop
+sub-card c = omega (arith, within c)
+
+part-card-start : tie.Need-part-card-start Inv-loop μ-loop
+part-card-start c = omega (arith, within c)
+
+part-card-end : tie.Need-part-card-end Inv-loop μ-loop
+part-card-end c = omega (arith, within c)
+
+slice-aggregate-code-of : tie.Need-slice-aggregate-code-of Inv-loop μ-loop
+slice-aggregate-code-of c =
+    let loop = c .before .before in
+    let h = now (loop .before .before .before .args .header) in
+    let p = loop .before .loop .place in
+    sym (length-take-le 5 (take (p * 80 + 80 - p * 80) (drop (p * 80) h)) (omega (arith, card-whole h p (loop .loop-test .taken))))
+
+code-of-requires : tie.Need-code-of-requires Inv-loop μ-loop
+code-of-requires c κs = search needs
+
+number-of-requires : tie.Need-number-of-requires Inv-loop μ-loop
+number-of-requires c κs = search needs
+
+form-by-requires : tie.Need-form-by-requires Inv-loop μ-loop
+form-by-requires c κs = search needs
+
+in-place-requires : tie.Need-in-place-requires Inv-loop μ-loop
+in-place-requires c κs = search needs
+
+judge-placed-requires : tie.Need-judge-placed-requires Inv-loop μ-loop
+judge-placed-requires c κs =
+    let coding = c .before .before in
+    let loop = coding .before .before .before .before in
+    let start = loop .before .before .before in
+    (card-whole (now (start .args .header)) (loop .before .loop .place) (loop .loop-test .taken), coding .before .code-of .ensures)
+
+enum-told : tie.Need-enum-told Inv-loop μ-loop
+enum-told c = search needs
+
+enum-told-2 : tie.Need-enum-told-2 Inv-loop μ-loop
+enum-told-2 c = search needs
+
+add-answer-for : tie.Need-add-answer-for Inv-loop μ-loop
+add-answer-for c = search needs
+
+answer-for-requires : tie.Need-answer-for-requires Inv-loop μ-loop
+answer-for-requires c κs = search needs
+
+returns : tie.Need-returns Inv-loop μ-loop
+unfolding cardsIn
+returns c =
+    let judged = c .before .before .before in
+    let loop = judged .before .before .before .before .before .before .before in
+    let b = loop .before .loop in
+    ends-at (now (loop .before .before .before .args .header)) (b .place) (loop .loop-test .taken) (b .inv .2)
+    (judged .judge-placed .result) (verdict-is judged) _ _ (c .before .enum-told2 .given .1) _ (c .answer-for .ensures)
+
+add-place : tie.Need-add-place Inv-loop μ-loop
+add-place c = search needs
+
+loop-less : tie.Need-loop-less Inv-loop μ-loop
+loop-less c = search needs
+
+loop-again : tie.Need-loop-again Inv-loop μ-loop
+unfolding cardsIn
+loop-again c =
+    let judged = c .before .before in
+    let loop = judged .before .before .before .before .before .before .before in
+    let b = loop .before .loop in
+    let h = now (loop .before .before .before .args .header) in (
+      omega arith,
+      next-before h (b .place) _ (coded _ _ _ (judged .before .before .before .before .code-of .ensures) (judged .before .before .before .number-of .ensures) ∙ ap layoutOf (card-part h (b .place))),
+      goes-on h (b .place) (loop .loop-test .taken) (b .inv .2) (judged .judge-placed .result) (verdict-is judged)
+          (c .enum-told .given .1),
+    )
+
+judge-end-requires : tie.Need-judge-end-requires Inv-loop μ-loop
+judge-end-requires c κs = search needs
+
+add-answer-for-2 : tie.Need-add-answer-for-2 Inv-loop μ-loop
+add-answer-for-2 c = search needs
+
+answer-for-requires-2 : tie.Need-answer-for-requires-2 Inv-loop μ-loop
+answer-for-requires-2 c κs = search needs
+
+returns-2 : tie.Need-returns-2 Inv-loop μ-loop
+unfolding cardsIn
+returns-2 c =
+    let h = now (c .before .before .before .before .before .args .header) in
+    let b = c .before .before .before .loop in
+    let q : b .place ≡ length h / 80 = omega arith in
+    ends-past h (b .place) q (b .inv .2) _ (c .before .judge-end .ensures) _ (c .answer-for2 .ensures)
+
+pub check-cards-spec : {M : Type 1} → statement M
+check-cards-spec =
+    tie.close
+    (tie.spec
+    Inv-loop
+    μ-loop
+    loop-holds
+    mul-from
+    add-card
+    sub-card
+    part-card-start
+    part-card-end
+    slice-aggregate-code-of
+    code-of-requires
+    number-of-requires
+    form-by-requires
+    in-place-requires
+    judge-placed-requires
+    enum-told
+    enum-told-2
+    add-answer-for
+    answer-for-requires
+    returns
+    add-place
+    loop-less
+    loop-again
+    judge-end-requires
+    add-answer-for-2
+    answer-for-requires-2
+    returns-2)

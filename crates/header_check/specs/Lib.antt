@@ -1,0 +1,4 @@
+pub mod Opening
+pub mod Refusing
+pub mod forms
+pub mod packed

@@ -1,0 +1,152 @@
+// The form of a card's coordinates, where another card may state it: noted in one pass over all cards.
+use format_code::Code;
+use format_layout::CARD;
+use format_layout::CODE;
+use format_layout::Form;
+use format_layout::names::H00X8;
+use format_layout::names::H00X9;
+use format_layout::names::H0100;
+use format_layout::names::H0101;
+ghost use mathlib.Core.Path.{_≡_};
+ghost use Prim.Native.Nat.{_+_, _<_};
+ghost use Rattle.header_check.specs.forms.Cards.{numberOf, cardsIn, layoutOf};
+ghost use Rattle.header_check.specs.packed.Notes.{noteCount, mark, noted, told, noteAt, noteCard, notesTo, formBy};
+
+// The number that stands for a code that no layout reads.
+pub const UNREAD: usize = 99;
+
+// A note for the grid and one for each byte that names a vessel: bytes are compared, so that nobody has to argue that only digits
+// matter.
+pub const NOTES: usize = 257;
+
+// What a note says: no card seen, form 0, form 1, or it cannot be known.
+const NONE: u8 = 0;
+
+const ANGLES: u8 = 1;
+
+const GRID: u8 = 2;
+
+const NOT_KNOWN: u8 = 3;
+
+// The number of the layout that reads a card with a code.
+pub fn number_of(code: Code) -> usize
+    ensures { λ r. ⌜ r ≡ numberOf code ⌝ }
+{
+    match code {
+        Code::Read(k) => k,
+        Code::Passed => UNREAD,
+        Code::Unknown => UNREAD,
+    }
+}
+
+// The number of the layout that reads a card.
+pub fn layout_of(card: &[u8]) -> usize
+    ensures { λ r. ⌜ r ≡ layoutOf (now (card .entry)) ⌝ }
+{
+    if card.len() < CODE {
+        return UNREAD;
+    }
+    number_of(format_code::code_of(&card[..CODE]))
+}
+
+// The note of a form column's byte.
+fn mark_of(byte: u8) -> u8
+    ensures { λ r. ⌜ r ≡ mark byte ⌝ }
+{
+    if byte == b'0' {
+        return ANGLES;
+    }
+    if byte == b'1' {
+        return GRID;
+    }
+    NOT_KNOWN
+}
+
+// A note when one more card is seen.
+fn note_again(old: u8, byte: u8) -> u8
+    ensures { λ r. ⌜ r ≡ noted old byte ⌝ }
+{
+    if old != NONE {
+        return NOT_KNOWN;
+    }
+    mark_of(byte)
+}
+
+// The form that a note says.
+fn form_told(note: u8) -> Form
+    ensures { λ r. ⌜ r ≡ told note ⌝ }
+{
+    if note == ANGLES {
+        return Form::Angles;
+    }
+    if note == GRID {
+        return Form::Grid;
+    }
+    Form::Unknown
+}
+
+// Where a vessel's note stands: the grid's stands before them.
+fn place_of(vessel: u8) -> usize
+    ensures { λ r. ⌜ (r ≡ 1 + vessel) × (r < noteCount) ⌝ }
+{
+    1 + vessel as usize
+}
+
+fn note(notes: &mut [u8; NOTES], place: usize, byte: u8)
+    requires { ⌜ place < noteCount ⌝ }
+    ensures { λ _. ⌜ now (notes .exit) ≡ noteAt (now (notes .entry)) place byte ⌝ }
+{
+    notes[place] = note_again(notes[place], byte);
+}
+
+// Notes the form that a card states, if it states one: H00@8 and H0100 have a 0 in column 2.
+fn note_card(notes: &mut [u8; NOTES], card: &[u8])
+    ensures { λ _. ⌜ now (notes .exit) ≡ noteCard (now (notes .entry)) (now (card .entry)) ⌝ }
+{
+    if base_lists::byte_at(card, 1) != b'0' {
+        return;
+    }
+    let layout = layout_of(card);
+    if layout == H00X8 {
+        note(
+            notes,
+            place_of(base_lists::byte_at(card, 29)),
+            base_lists::byte_at(card, 31),
+        );
+        return;
+    }
+    if layout == H0100 {
+        note(notes, 0, base_lists::byte_at(card, 20));
+    }
+}
+
+// The notes of all cards of a header.
+pub fn notes_of(header: &[u8]) -> [u8; NOTES]
+    ensures { λ r. ⌜ r ≡ notesTo (now (header .entry)) (cardsIn (now (header .entry))) ⌝ }
+{
+    let mut notes = [NONE; NOTES];
+    let count = header.len() / CARD;
+    let mut card = 0;
+    while card < count {
+        let from = card * CARD;
+        note_card(&mut notes, &header[from..from + CARD]);
+        card += 1;
+    }
+    notes
+}
+
+// The form of a card's coordinates, by its layout and the header's notes.
+pub fn form_by(notes: &[u8; NOTES], layout: usize, card: &[u8]) -> Form
+    ensures form { λ r. ⌜ r ≡ formBy (now (notes .entry)) layout (now (card .entry)) ⌝ }
+{
+    if layout == H00X8 {
+        return form_told(mark_of(base_lists::byte_at(card, 31)));
+    }
+    if layout == H00X9 {
+        return form_told(notes[place_of(base_lists::byte_at(card, 6))]);
+    }
+    if layout == H0101 {
+        return form_told(notes[0]);
+    }
+    Form::Unknown
+}

@@ -1,3 +1,0 @@
-pub mod Roles
-pub mod Keys
-pub mod Lines

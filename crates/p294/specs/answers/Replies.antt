@@ -1,0 +1,104 @@
+-- Each answer as numbers: one that says it, and the three that go with it.
+use Prim.Native.Nat.{ℕ}
+use mathlib.Core.Bool.{Bool, true, false, cond}
+use lib.Dec.{eqb}
+use lib.IntN.{ℤ, pos, negsuc}
+use Rattle.base_digits.specs.digits.Figures.{capped}
+use Rattle.base_digits.specs.signs.Signs.{signedOf}
+use Rattle.base_refusal.specs.declared.Refusal.{Refusal}
+use Rattle.base_value.specs.declared.Value.{Value}
+use Rattle.base_value.specs.declared.Value.the-variants.{Absent, Whole, Decimal, Angle, Date, Text}
+use Rattle.card_field.specs.declared.FieldRead.{FieldRead}
+use Rattle.card_field.specs.declared.FieldRead.the-variants as read
+use Rattle.card_put.specs.declared.Entered.{Entered}
+use Rattle.card_put.specs.declared.Entered.the-variants as entered
+use Rattle.card_put.specs.declared.opening.Opened.{Opened}
+use Rattle.card_put.specs.declared.opening.Opened.the-variants as opened
+use Rattle.tie_check.specs.declared.Ties.{Ties}
+use Rattle.tie_check.specs.declared.Ties.the-variants as ties
+use Rattle.tie_lookup.specs.declared.questions.Definitions.{Definitions}
+use Rattle.tie_lookup.specs.declared.questions.Definitions.the-variants as number
+use Rattle.tie_lookup.specs.declared.questions.Place.{Place}
+use Rattle.tie_lookup.specs.declared.questions.Place.the-variants as place
+use Rattle.p294.specs.declared.answers.Reply.{Reply}
+
+abbrev pub reply : ℤ → ℤ → ℤ → ℤ → Reply
+reply said a b c = record { said = said; first = a; second = b; third = c }
+
+-- a number without a sign; from 10^18 on, which none reaches, 10^18
+abbrev pub plain : ℕ → ℤ
+plain n = signedOf false (capped n)
+
+-- a refusal: minus its number; number, card, column
+unfoldable pub refusedReply : Refusal → Reply
+refusedReply r = reply (signedOf true (capped (r .number))) (plain (r .number)) (plain (r .card)) (plain (r .column))
+
+-- something was done; there is nothing to say of it
+abbrev pub doneReply : Reply
+doneReply = reply (pos 0) (pos 0) (pos 0) (pos 0)
+
+-- a value: 0 absent, 1 whole, 2 decimal with its places, 3 angle, 4 date, 5 text with its columns on the card
+unfoldable pub valueReply : Value → Reply
+valueReply Absent = doneReply
+valueReply (Whole z) = reply (pos 1) z (pos 0) (pos 0)
+valueReply (Decimal d) = reply (pos 2) (d .units) (plain (d .places)) (pos 0)
+valueReply (Angle z) = reply (pos 3) z (pos 0) (pos 0)
+valueReply (Date d) = reply (pos 4) (plain (d .year)) (plain (d .month)) (plain (d .day))
+valueReply (Text c) = reply (pos 5) (plain (c .first)) (plain (c .last)) (pos 0)
+
+-- a field: its value, or its refusal
+unfoldable pub fieldReply : FieldRead → Reply
+fieldReply (read.Is v) = valueReply v
+fieldReply (read.Refused r) = refusedReply r
+
+-- a text: 5 and its columns; 0 where there is none
+unfoldable pub textReply : FieldRead → Reply
+textReply (read.Is Absent) = doneReply
+textReply (read.Is (Whole z)) = doneReply
+textReply (read.Is (Decimal d)) = doneReply
+textReply (read.Is (Angle z)) = doneReply
+textReply (read.Is (Date d)) = doneReply
+textReply (read.Is (Text c)) = valueReply (Text c)
+textReply (read.Refused r) = doneReply
+
+-- an answer that says 5, which only one with a text does
+abbrev pub isText : ℤ → Bool
+isText (pos n) = eqb n 5
+isText (negsuc n) = false
+
+-- a text by the answer to its field: all but a text is none
+unfoldable pub textAlone : Reply → Reply
+textAlone r = cond (isText (r .said)) r doneReply
+
+-- an entry: 0, or its refusal
+unfoldable pub enteredReply : Entered → Reply
+enteredReply entered.Done = doneReply
+enteredReply (entered.Refused r) = refusedReply r
+
+-- an opening: 0, or its refusal
+unfoldable pub openedReply : Opened → Reply
+openedReply opened.Done = doneReply
+openedReply (opened.Refused r) = refusedReply r
+
+-- so many
+unfoldable pub countReply : ℕ → Reply
+countReply n = reply (plain n) (pos 0) (pos 0) (pos 0)
+
+-- there: the card, and card and column with it
+unfoldable pub atReply : ℕ → ℕ → Reply
+atReply card column = reply (plain card) (plain card) (plain column) (pos 0)
+
+-- a check: the number of all faults, or the header's refusal
+unfoldable pub tiesReply : Ties → Reply
+tiesReply (ties.Found n) = countReply n
+tiesReply (ties.Refused r) = refusedReply r
+
+-- the number of a key's definitions, or the refusal
+unfoldable pub definitionsReply : Definitions → Reply
+definitionsReply (number.Number n) = countReply n
+definitionsReply (number.Refused r) = refusedReply r
+
+-- where a key's only definition stands, or the refusal
+unfoldable pub placeReply : Place → Reply
+placeReply (place.At card column) = atReply card column
+placeReply (place.Refused r) = refusedReply r

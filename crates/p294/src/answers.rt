@@ -1,0 +1,222 @@
+// Every answer as numbers, for programs in other languages: one number that says it, and three that go with it.
+use base_digits::signs;
+use base_refusal::Refusal;
+use base_value::Columns;
+use base_value::Date;
+use base_value::Decimal;
+use base_value::Value;
+use card_field::FieldRead;
+use card_put::Entered;
+use card_put::opening::Opened;
+use tie_check::Ties;
+use tie_lookup::questions::Definitions;
+use tie_lookup::questions::Place;
+ghost use mathlib.Core.Path.{_≡_};
+ghost use Rattle.p294.specs.answers.Replies.{plain, refusedReply, doneReply, valueReply, fieldReply, textAlone, enteredReply, openedReply, countReply, atReply, tiesReply, definitionsReply, placeReply};
+
+// What the answer with a text says.
+const TEXT: i64 = 5;
+
+// What an answer says, and the numbers that go with it.
+pub struct Reply {
+    pub said: i64,
+    pub first: i64,
+    pub second: i64,
+    pub third: i64,
+}
+
+// A number without a sign.
+fn plain_of(n: usize) -> i64
+    ensures { λ r. ⌜ r ≡ plain n ⌝ }
+{
+    signs::signed(false, n as u64)
+}
+
+// An answer that says 0.
+fn done() -> Reply
+    ensures { λ r. ⌜ r ≡ doneReply ⌝ }
+{
+    Reply {
+        said: 0,
+        first: 0,
+        second: 0,
+        third: 0,
+    }
+}
+
+// A refusal.
+fn refused(r: Refusal) -> Reply
+    ensures { λ s. ⌜ s ≡ refusedReply r ⌝ }
+{
+    let number = r.number;
+    let card = r.card;
+    let column = r.column;
+    Reply {
+        said: signs::signed(true, number as u64),
+        first: plain_of(number),
+        second: plain_of(card),
+        third: plain_of(column),
+    }
+}
+
+// A date.
+fn of_date(d: Date) -> Reply
+    ensures { λ r. ⌜ r ≡ valueReply (Value.Date d) ⌝ }
+{
+    let year = d.year;
+    let month = d.month;
+    let day = d.day;
+    Reply {
+        said: 4,
+        first: plain_of(year as usize),
+        second: plain_of(month as usize),
+        third: plain_of(day as usize),
+    }
+}
+
+// A text's columns.
+fn of_columns(c: Columns) -> Reply
+    ensures { λ r. ⌜ r ≡ valueReply (Value.Text c) ⌝ }
+{
+    let first = c.first;
+    let last = c.last;
+    Reply {
+        said: TEXT,
+        first: plain_of(first),
+        second: plain_of(last),
+        third: 0,
+    }
+}
+
+// A decimal.
+fn of_decimal(d: Decimal) -> Reply
+    ensures { λ r. ⌜ r ≡ valueReply (Value.Decimal d) ⌝ }
+{
+    let units = d.units;
+    let places = d.places;
+    Reply {
+        said: 2,
+        first: units,
+        second: plain_of(places),
+        third: 0,
+    }
+}
+
+// A value.
+fn of_value(v: Value) -> Reply
+    ensures { λ r. ⌜ r ≡ valueReply v ⌝ }
+{
+    match v {
+        Value::Absent => done(),
+        Value::Whole(z) => Reply {
+            said: 1,
+            first: z,
+            second: 0,
+            third: 0,
+        },
+        Value::Decimal(d) => of_decimal(d),
+        Value::Angle(z) => Reply {
+            said: 3,
+            first: z,
+            second: 0,
+            third: 0,
+        },
+        Value::Date(d) => of_date(d),
+        Value::Text(c) => of_columns(c),
+    }
+}
+
+// The reading of a field.
+pub fn of_field(read: FieldRead) -> Reply
+    ensures { λ r. ⌜ r ≡ fieldReply read ⌝ }
+{
+    match read {
+        FieldRead::Is(v) => of_value(v),
+        FieldRead::Refused(r) => refused(r),
+    }
+}
+
+// The reading of a field as a text, by the answer to it: all but a text is none.
+pub fn of_text(reply: Reply) -> Reply
+    ensures { λ r. ⌜ r ≡ textAlone reply ⌝ }
+{
+    let said = reply.said;
+    if said == TEXT {
+        return reply;
+    }
+    done()
+}
+
+// What came of an entry.
+pub fn of_entered(entered: Entered) -> Reply
+    ensures { λ r. ⌜ r ≡ enteredReply entered ⌝ }
+{
+    match entered {
+        Entered::Done => done(),
+        Entered::Refused(r) => refused(r),
+    }
+}
+
+// What came of an opening.
+pub fn of_opened(opened: Opened) -> Reply
+    ensures { λ r. ⌜ r ≡ openedReply opened ⌝ }
+{
+    match opened {
+        Opened::Done => done(),
+        Opened::Refused(r) => refused(r),
+    }
+}
+
+// A number of things.
+fn counted(n: usize) -> Reply
+    ensures { λ r. ⌜ r ≡ countReply n ⌝ }
+{
+    Reply {
+        said: plain_of(n),
+        first: 0,
+        second: 0,
+        third: 0,
+    }
+}
+
+// A place in a header.
+fn at(card: usize, column: usize) -> Reply
+    ensures { λ r. ⌜ r ≡ atReply card column ⌝ }
+{
+    Reply {
+        said: plain_of(card),
+        first: plain_of(card),
+        second: plain_of(column),
+        third: 0,
+    }
+}
+
+// What came of a check.
+pub fn of_ties(ties: Ties) -> Reply
+    ensures { λ r. ⌜ r ≡ tiesReply ties ⌝ }
+{
+    match ties {
+        Ties::Found(n) => counted(n),
+        Ties::Refused(r) => refused(r),
+    }
+}
+
+// How often a key is defined.
+pub fn of_definitions(definitions: Definitions) -> Reply
+    ensures { λ r. ⌜ r ≡ definitionsReply definitions ⌝ }
+{
+    match definitions {
+        Definitions::Number(n) => counted(n),
+        Definitions::Refused(r) => refused(r),
+    }
+}
+
+// The place of a key's only definition.
+pub fn of_place(place: Place) -> Reply
+    ensures { λ r. ⌜ r ≡ placeReply place ⌝ }
+{
+    match place {
+        Place::At(card, column) => at(card, column),
+        Place::Refused(r) => refused(r),
+    }
+}

@@ -1,4 +1,0 @@
--- Laws of packed keys.
-pub mod Bits
-pub mod Steps
-pub mod Told

@@ -1,0 +1,65 @@
+-- `set_columns` sets no more columns than there are: each turn passes one.
+use lib.ListN.{length}
+use mathlib.Core.Path.{_≡_}
+use Prim.Native.Nat.{_≤_, _-_}
+use borrow.Author.Needs.{needs}
+use Rattle.test_script.proofs.set_columns.Statement.{statement}
+use Rattle.test_script.proofs.set_columns.Tie as tie
+
+abbrev Inv-loop : tie.InvT-loop
+Inv-loop s columns₀ i₀ columns i =
+    (i ≤ length s) × (i ≤ length columns₀) × (length columns ≡ length columns₀)
+
+abbrev μ-loop : tie.MeasureT-loop
+μ-loop s columns₀ i₀ columns i = length s - i
+
+loop-holds : tie.Need-loop-holds Inv-loop μ-loop
+loop-holds c = search needs
+
+same-length : tie.Need-same-length Inv-loop μ-loop
+same-length c = search needs
+
+returns : tie.Need-returns Inv-loop μ-loop
+returns c = search needs
+
+shared-slice-read-meant : tie.Need-shared-slice-read-meant Inv-loop μ-loop
+shared-slice-read-meant c = search needs
+
+meant-requires : tie.Need-meant-requires Inv-loop μ-loop
+meant-requires c κs = search needs
+
+slice-write-columns : tie.Need-slice-write-columns Inv-loop μ-loop
+slice-write-columns c = search needs
+
+add-i : tie.Need-add-i Inv-loop μ-loop
+add-i c = search needs
+
+loop-less : tie.Need-loop-less Inv-loop μ-loop
+loop-less c = search needs
+
+loop-again : tie.Need-loop-again Inv-loop μ-loop
+loop-again c = search needs
+
+same-length-2 : tie.Need-same-length-2 Inv-loop μ-loop
+same-length-2 c = search needs
+
+returns-2 : tie.Need-returns-2 Inv-loop μ-loop
+returns-2 c = search needs
+
+pub set-columns-spec : {M : Type 1} → statement M
+set-columns-spec =
+    tie.close
+    (tie.spec
+    Inv-loop
+    μ-loop
+    loop-holds
+    same-length
+    returns
+    shared-slice-read-meant
+    meant-requires
+    slice-write-columns
+    add-i
+    loop-less
+    loop-again
+    same-length-2
+    returns-2)

@@ -1,0 +1,62 @@
+-- `tie_check::entries::put_all` meets its contract.
+use native.Mathlib.Omega.{arith}
+use Rattle.tie_check.proofs.entries.Stored.{five-kinds}
+use borrow.Author.Needs.{needs}
+use Rattle.tie_check.proofs.entries.put_all.Statement.{statement}
+use Rattle.tie_check.proofs.entries.put_all.Tie as tie
+
+put-if-requires : tie.Need-put-if-requires
+put-if-requires c κs = search needs
+
+put-if-requires-2 : tie.Need-put-if-requires-2
+put-if-requires-2 c κs = search needs
+
+put-if-requires-3 : tie.Need-put-if-requires-3
+put-if-requires-3 c κs = search needs
+
+put-if-requires-4 : tie.Need-put-if-requires-4
+put-if-requires-4 c κs = search needs
+
+put-if-requires-5 : tie.Need-put-if-requires-5
+put-if-requires-5 c κs = search needs
+
+same-length : tie.Need-same-length
+same-length c = search needs
+
+returns : tie.Need-returns
+returns c =
+    let e = c .before .before in
+    let d = e .before .before .before .before in
+    let f = d .before .before .before .before in
+    let g = f .before .before .before .before in
+    let a = g .before .before .before .before in
+    let s = a .before .before .before in
+    let five = five-kinds (s .args .broken) (s .args .card) (s .args .column) (s .args .found) _ _ _ _ _ _ _ _ _ _ _
+    (a .put-if .ensures .0) (a .put-if .ensures .1 .0) (g .put-if2 .ensures .0) (g .put-if2 .ensures .1 .0)
+    (f .put-if3 .ensures .0) (f .put-if3 .ensures .1 .0) (d .put-if4 .ensures .0) (d .put-if4 .ensures .1 .0)
+    (e .put-if5 .ensures .0) (e .put-if5 .ensures .1 .0) in (
+      five .0,
+      (
+        five .1,
+        omega (
+          arith,
+          a .put-if .ensures .1 .1,
+          g .put-if2 .ensures .1 .1,
+          f .put-if3 .ensures .1 .1,
+          d .put-if4 .ensures .1 .1,
+          e .put-if5 .ensures .1 .1,
+        ),
+      ),
+    )
+
+pub put-all-spec : {M : Type 1} → statement M
+put-all-spec =
+    tie.close
+    (tie.spec
+    put-if-requires
+    put-if-requires-2
+    put-if-requires-3
+    put-if-requires-4
+    put-if-requires-5
+    same-length
+    returns)

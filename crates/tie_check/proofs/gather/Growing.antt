@@ -1,0 +1,213 @@
+-- One definition more, one card more: the store stays linked, and its entries are the definitions.
+use Prim.Native.Nat.{ℕ, zero, suc, _+_, _*_, _/_, _%_, _≤_, _<_}
+use native.Mathlib.Nat.{add-zero, add-assoc}
+use native.Mathlib.Numerals.{add-one}
+use native.Mathlib.Decide.{ℕ-discrete, decLt}
+use native.Mathlib.Omega.{arith}
+use mathlib.Core.Path.{_≡_, sym, ap, _∙_}
+use mathlib.Core.Bool.{false}
+use mathlib.Core.List.{List}
+use lib.ListN.{getD, replicate}
+use lib.Seq.{getD-set-same, getD-set-other}
+use borrow.Author.Tests.{eq-eqb, ne-eqb}
+use Rattle.base_lists.specs.Count.{bit, count}
+use Rattle.base_lists.proofs.Counting.{count-more, count-same, count-run}
+use Rattle.header_check.specs.forms.Cards.{cardAt, cardsIn, layoutOf}
+use Rattle.tie_rules.proofs.packing.Steps.{none-packed}
+use Rattle.tie_rules.specs.Ties.{defines, canTie, tieColumns}
+use Rattle.tie_rules.specs.Keys.{classAt, keyAt, vesselOf}
+use Rattle.tie_rules.specs.packed.Rows.{tieRow, definitionIn, foundIn, packedBy, vesselBy}
+use Rattle.tie_rules.proofs.keys.Table.{definition-found, row-is, column-low, no-row}
+use Rattle.tie_rules.proofs.columns.Tied.{none-at-zero, idle, Idle, none-behind}
+use Rattle.tie_store.specs.Store.{room, linkRoom, countIn, tagAt, keysWith, linksWith, Linked}
+use Rattle.tie_store.proofs.Adding.{no-entries, zeros-linked, linked-more, tag-new, tag-kept, entries-more}
+use Rattle.tie_check.specs.packed.Numbers.{Test, Sparing, numberOn, numberAt, columnPasses, passing}
+use Rattle.tie_check.specs.packed.Gathered.{Store, store, withNumber, withSlots, gatheredTo, gathered, entriesPassing}
+use Rattle.tie_check.proofs.gather.Slots.{by-slots}
+
+-- a store whose entries are linked, and are no more than some
+pub record Well (t : Store) (most : ℕ) : Type 0 where
+  pub linked : Linked (t .keys) (t .links)
+  pub few : countIn (t .links) ≤ most
+
+-- no definition
+pub no-number : (t : Store) (number vessel : ℕ) → number ≡ 0 → withNumber t number vessel ≡ t
+unfolding withNumber
+no-number t number vessel e = rw (eq-eqb number 0 e)
+
+pub a-number : (t : Store) (number vessel : ℕ) → (number ≡ 0 → ⊥)
+    → withNumber t number vessel ≡ store (keysWith (t .keys) (t .links) number) (linksWith (t .keys) (t .links) number vessel)
+unfolding withNumber
+a-number t number vessel z = rw (ne-eqb number 0 z)
+
+module _ (t : Store) (most : ℕ) (w : Well t most) (h : most < room) (number vessel : ℕ) where
+  below : countIn (t .links) < room
+  below = omega (arith, w .few)
+
+  pub number-well : Well (withNumber t number vessel) (most + 1)
+  number-well = elim (ℕ-discrete number 0) [
+    | yes e ↦ rw (no-number t number vessel e) (record { linked = w .linked; few = omega (arith, w .few) })
+    | no e ↦ rw (a-number t number vessel e) (record {
+      linked = linked-more (t .keys) (t .links) (w .linked) below number vessel;
+      few = omega (arith, w .few, entries-more (t .keys) (t .links) (w .linked) below number vessel);
+    })
+  ]
+
+  -- one entry more
+  passes-more : (test : Test) → entriesPassing test (store (keysWith (t .keys) (t .links) number) (linksWith (t .keys) (t .links) number vessel))
+      ≡ entriesPassing test t + bit (test number vessel)
+  unfolding entriesPassing keysWith
+  passes-more test =
+      let n = countIn (t .links) in
+      let links = linksWith (t .keys) (t .links) number vessel in
+      rw (
+        entries-more (t .keys) (t .links) (w .linked) below number vessel,
+        count-more (λ i. test (getD (keysWith (t .keys) (t .links) number) i 0) (tagAt links i)) n,
+        getD-set-same (t .keys) n number 0 (omega (arith, below, w .linked .keys-room)),
+        tag-new (t .keys) (t .links) (w .linked) below number vessel,
+        count-same _ (λ i. test (getD (t .keys) i 0) (tagAt (t .links) i)) n kept,
+      )
+    where
+      kept : (i : ℕ) → i < countIn (t .links)
+          → test (getD (keysWith (t .keys) (t .links) number) i 0) (tagAt (linksWith (t .keys) (t .links) number vessel) i)
+          ≡ test (getD (t .keys) i 0) (tagAt (t .links) i)
+      kept i l = rw (
+        getD-set-other (t .keys) (countIn (t .links)) i number 0 (λ e. omega arith),
+        tag-kept (t .keys) (t .links) (w .linked) below number vessel i l,
+      )
+
+  pub number-passes : (test : Test) → Sparing test
+      → entriesPassing test (withNumber t number vessel) ≡ entriesPassing test t + bit (test number vessel)
+  number-passes test sparing = elim (ℕ-discrete number 0) [
+    | yes e ↦ rw (no-number t number vessel e, e, sparing vessel) (sym (add-zero (entriesPassing test t)))
+    | no e ↦ rw (a-number t number vessel e) (passes-more test)
+  ]
+
+-- the columns of a card that can carry a tie, one after the other
+module _ (t : Store) (most : ℕ) (w : Well t most) (h : most + 5 ≤ room) (s : List ℕ) where
+  pub slots-well : (i : ℕ) → i ≤ 5 → Well (withSlots t s i) (most + i)
+  unfolding withSlots
+  slots-well zero l = rw (add-zero most) w
+  slots-well (suc i) l =
+      let e : most + suc i ≡ most + i + 1 = omega arith in
+      rw e (number-well (withSlots t s i) (most + i) (slots-well i (omega arith)) (omega arith) _ (vesselOf s))
+
+  pub slots-pass : (test : Test) → Sparing test → (i : ℕ) → i ≤ 5 → entriesPassing test (withSlots t s i)
+      ≡ entriesPassing test t + count (λ j. columnPasses s (getD (tieColumns (layoutOf s)) j 0) test) i
+  unfolding withSlots count columnPasses
+  slots-pass test sparing zero l = sym (add-zero (entriesPassing test t))
+  slots-pass test sparing (suc i) l =
+      number-passes (withSlots t s i) (most + i) (slots-well i (omega arith)) (omega arith) _ (vesselOf s) test sparing
+      ∙ rw (slots-pass test sparing i (omega arith)) (add-assoc _ _ _)
+
+-- a column that cannot carry a tie defines nothing
+idle-number : (s : List ℕ) (column : ℕ) → canTie (layoutOf s) column ≡ false → numberOn s column ≡ 0
+unfolding numberOn packedBy classAt keyAt
+idle-number s column h =
+    let i : Idle s column = idle s column h in
+    rw (i .class defines, i .key defines) (none-packed 0)
+
+-- behind a slot without a column there is nothing
+pub rest-slots : (t : Store) (s : List ℕ) (slot : ℕ) → getD (tieColumns (layoutOf s)) slot 0 ≡ 0 → (n : ℕ) → slot ≤ n
+    → withSlots t s n ≡ withSlots t s slot
+unfolding withSlots
+rest-slots t s slot e zero l = let q : slot ≡ 0 = omega arith in ap (withSlots t s) (sym q)
+rest-slots t s slot e (suc n) l = elim (decLt n slot) [
+  | yes k ↦ let q : slot ≡ suc n = omega arith in ap (withSlots t s) (sym q)
+  | no k ↦
+      let z = none-behind (layoutOf s) slot e n (omega arith) in
+      let none = ap (numberOn s) z ∙ idle-number s 0 (none-at-zero (layoutOf s)) in
+      no-number (withSlots t s n) _ (vesselOf s) none ∙ rest-slots t s slot e n (omega arith)
+]
+
+-- a column that cannot carry a tie passes no test
+idles : (s : List ℕ) (test : Test) → Sparing test → (column : ℕ) → canTie (layoutOf s) column ≡ false
+    → columnPasses s column test ≡ false
+unfolding columnPasses
+idles s test sparing column e = rw (idle-number s column e) (sparing (vesselOf s))
+
+-- one card more
+passing-more : (test : Test) → Sparing test → (h : List ℕ) (c : ℕ) → passing test h (80 * (c + 1))
+    ≡ passing test h (80 * c) + count (λ j. columnPasses (cardAt h c) (getD (tieColumns (layoutOf (cardAt h c))) j 0) test) 5
+unfolding passing numberAt columnPasses
+passing-more test sparing h c =
+    count-run (λ p. test (numberAt h p) (vesselOf (cardAt h (p / 80)))) 80 c
+    ∙ ap (λ n. passing test h (80 * c) + n)
+    (count-same _ (λ j. columnPasses (cardAt h c) (j + 1) test) 80 same
+    ∙ by-slots (layoutOf (cardAt h c)) (λ column. columnPasses (cardAt h c) column test) (idles (cardAt h c) test sparing))
+  where
+    same : (j : ℕ) → j < 80 → test (numberAt h (80 * c + j)) (vesselOf (cardAt h ((80 * c + j) / 80)))
+        ≡ columnPasses (cardAt h c) (j + 1) test
+    same j l =
+        let a : (80 * c + j) / 80 ≡ c = omega arith in
+        let b : (80 * c + j) % 80 ≡ j = omega arith in
+        rw (a, b)
+
+-- no card
+none-pass : (test : Test) (h : List ℕ) → entriesPassing test (store (replicate room 0) (replicate linkRoom 0)) ≡ passing test h 0
+unfolding entriesPassing passing count
+none-pass test h = rw no-entries
+
+module _ (h : List ℕ) where
+  pub cards-well : (c : ℕ) → c ≤ 800 → Well (gatheredTo h c) (5 * c)
+  unfolding gatheredTo
+  cards-well zero l = record { linked = zeros-linked; few = omega (arith, no-entries) }
+  cards-well (suc c) l =
+      let e : 5 * suc c ≡ 5 * c + 5 = omega arith in
+      rw e (slots-well (gatheredTo h c) (5 * c) (cards-well c (omega arith)) (omega arith) (cardAt h c) 5 (omega arith))
+
+  cards-pass : (test : Test) → Sparing test → (c : ℕ) → c ≤ 800 → entriesPassing test (gatheredTo h c) ≡ passing test h (80 * c)
+  unfolding gatheredTo
+  cards-pass test sparing zero l = none-pass test h
+  cards-pass test sparing (suc c) l =
+      slots-pass (gatheredTo h c) (5 * c) (cards-well c (omega arith)) (omega arith) (cardAt h c) test sparing 5 (omega arith)
+      ∙ rw (cards-pass test sparing c (omega arith))
+      (sym (passing-more test sparing h c) ∙ ap (λ n. passing test h (80 * n)) (add-one c))
+
+  -- what the walk over the cards does at one
+  pub card-more : (c : ℕ) (s keys links keys′ links′ : List ℕ) → s ≡ cardAt h c → keys ≡ gatheredTo h c .keys
+      → links ≡ gatheredTo h c .links → keys′ ≡ withSlots (store keys links) s 5 .keys
+      → links′ ≡ withSlots (store keys links) s 5 .links
+      → (keys′ ≡ gatheredTo h (c + 1) .keys) × (links′ ≡ gatheredTo h (c + 1) .links)
+  unfolding gatheredTo
+  card-more c s keys links keys′ links′ e p q u w = rw (add-one c) (u ∙ rw (p, q, e), w ∙ rw (p, q, e))
+
+  -- all of them
+  module _ (few : cardsIn h ≤ 800) where
+    pub all-linked : Linked (gathered h .keys) (gathered h .links)
+    unfolding gathered
+    all-linked = cards-well (cardsIn h) few .linked
+
+    pub all-pass : (test : Test) → Sparing test → entriesPassing test (gathered h) ≡ passing test h (80 * cardsIn h)
+    unfolding gathered
+    all-pass test sparing = cards-pass test sparing (cardsIn h) few
+
+-- what the walk over a card's columns does at a slot
+module _ (t : Store) (s : List ℕ) (slot row layout : ℕ) (is : layout ≡ layoutOf s) (found : row ≡ tieRow layout (slot + 1)) where
+  abbrev column : ℕ
+  column = getD (tieColumns layout) slot 0
+
+  number-is : (number : ℕ) → number ≡ foundIn (definitionIn row) s → number ≡ numberOn s (getD (tieColumns (layoutOf s)) slot 0)
+  unfolding numberOn
+  number-is number e =
+      e
+      ∙ ap (λ r. foundIn (definitionIn r) s) (row-is layout slot row found)
+      ∙ definition-found layout column (column-low layout slot row found) s
+      ∙ ap (λ k. packedBy defines k s (getD (tieColumns k) slot 0)) is
+
+  pub slot-more : (keys links keys′ links′ : List ℕ) (number vessel : ℕ) → number ≡ foundIn (definitionIn row) s
+      → vessel ≡ vesselBy layout s → keys ≡ withSlots t s slot .keys → links ≡ withSlots t s slot .links
+      → keys′ ≡ withNumber (store keys links) number vessel .keys → links′ ≡ withNumber (store keys links) number vessel .links
+      → (keys′ ≡ withSlots t s (slot + 1) .keys) × (links′ ≡ withSlots t s (slot + 1) .links)
+  unfolding withSlots vesselBy vesselOf
+  slot-more keys links keys′ links′ number vessel e v p q u w =
+      let n = number-is number e in
+      let o = v ∙ ap (λ k. vesselBy k s) is in
+      rw (add-one slot) (u ∙ rw (p, q, n, o), w ∙ rw (p, q, n, o))
+
+  -- a slot without a row is behind the last
+  pub slot-rest : row ≡ 0 → slot ≤ 5 → withSlots t s slot ≡ withSlots t s 5
+  slot-rest z l =
+      let e : getD (tieColumns (layoutOf s)) slot 0 ≡ 0 =
+      ap (λ k. getD (tieColumns k) slot 0) (sym is) ∙ no-row layout slot row found z in
+      sym (rest-slots t s slot e 5 l)

@@ -1,0 +1,98 @@
+-- One column more, one card more.
+use Prim.Native.Nat.{ℕ, zero, suc, _+_, _≤_, _<_}
+use native.Mathlib.Numerals.{add-one}
+use native.Mathlib.Decide.{decLt}
+use native.Mathlib.Omega.{arith}
+use mathlib.Core.Path.{_≡_, refl, sym, ap, _∙_}
+use mathlib.Core.List.{List, [], _∷_, _++_, flatMap, append-nil, List·Memᴰ, List·Memᴰ·head, List·Memᴰ·tail}
+use lib.ListN.{length, getD, length-append}
+use Rattle.base_lists.specs.Parts.{kept, upTo}
+use Rattle.base_lists.proofs.Keeping.{out-of-kept, out-of-upTo}
+use Rattle.base_lists.proofs.Entries.{entries-more}
+use Rattle.header_check.specs.forms.Cards.{cardAt, cardsIn, layoutOf}
+use Rattle.header_check.specs.declared.Checked.the-variants.{Accepted}
+use Rattle.header_check.specs.Refusing.{refusalOf}
+use Rattle.header_laws.proofs.Accepted.{few-cards, printed}
+use Rattle.tie_rules.specs.Ties.{canTie, tieColumns}
+use Rattle.tie_rules.specs.Keys.{vesselOf}
+use Rattle.tie_rules.specs.packed.Rows.{tieRow, columnIn, vesselBy}
+use Rattle.tie_rules.proofs.keys.Table.{row-is, column-low, column-is, no-row}
+use Rattle.tie_rules.proofs.key_laws.Told.{vessel-at}
+use Rattle.tie_check.specs.declared.entries.Broken.{Broken}
+use Rattle.tie_check.specs.declared.totals.Totals.{Totals}
+use Rattle.tie_check.specs.packed.Gathered.{gathered}
+use Rattle.tie_check.specs.packed.Totals.{totalsOf}
+use Rattle.tie_check.specs.packed.Kinds.{brokenFor}
+use Rattle.tie_check.specs.packed.Asked.{faultsBy}
+use Rattle.tie_check.specs.packed.Stored.{storedAll, entriesFor}
+use Rattle.tie_check.specs.packed.Listed.{slotEntries}
+use Rattle.tie_check.proofs.judging.Judged.{judged}
+use Rattle.tie_check.proofs.listing.Columns.{of-column}
+use Rattle.tie_check.proofs.entries.Stored.{stored-append}
+
+-- entries more, of whatever they are
+pub run-more : (g : ℕ → List (List ℕ)) (l₀ l l′ : List ℕ) (found m r i : ℕ)
+    → l ≡ storedAll l₀ found (flatMap g (upTo i)) → m ≡ found + length (flatMap g (upTo i))
+    → l′ ≡ storedAll l m (g i) → r ≡ m + length (g i)
+    → (l′ ≡ storedAll l₀ found (flatMap g (upTo (i + 1)))) × (r ≡ found + length (flatMap g (upTo (i + 1))))
+unfolding upTo
+run-more g l₀ l l′ found m r i a b d e =
+    let w = flatMap g (upTo i) in
+    let more : flatMap g (upTo (i + 1)) ≡ w ++ g i = ap (λ j. flatMap g (upTo j)) (add-one i) ∙ entries-more g (upTo i) i in (
+      d ∙ rw (a, b) (stored-append w (g i) l₀ found) ∙ ap (storedAll l₀ found) (sym more),
+      omega (arith, ap length more, length-append w (g i)),
+    )
+
+-- behind what gives nothing more
+pub run-rest : (g : ℕ → List (List ℕ)) (m n : ℕ) → m ≤ n → ((i : ℕ) → m ≤ i → i < n → g i ≡ [])
+    → flatMap g (upTo n) ≡ flatMap g (upTo m)
+unfolding upTo
+run-rest g m zero l h = let q : m ≡ 0 = omega arith in ap (λ i. flatMap g (upTo i)) (sym q)
+run-rest g m (suc n) l h = elim (decLt n m) [
+  | yes k ↦ let q : m ≡ suc n = omega arith in ap (λ i. flatMap g (upTo i)) (sym q)
+  | no k ↦
+      entries-more g (upTo n) n
+      ∙ ap (λ e. flatMap g (upTo n) ++ e) (h n (omega arith) (omega arith))
+      ∙ append-nil _
+      ∙ run-rest g m n (omega arith) (λ i a b. h i a (omega arith))
+]
+
+-- what a column gives
+module _ (h : List ℕ) (accepted : refusalOf h ≡ Accepted) (c : ℕ) (below : c < cardsIn h) (layout slot row : ℕ)
+    (is : layout ≡ layoutOf (cardAt h c)) (found : row ≡ tieRow layout (slot + 1)) where
+  abbrev at : ℕ
+  at = getD (tieColumns (layoutOf (cardAt h c))) slot 0
+
+  row-there : row ≡ tieRow (layoutOf (cardAt h c)) (slot + 1)
+  row-there = found ∙ ap (λ k. tieRow k (slot + 1)) is
+
+  low : at < 256
+  low = column-low (layoutOf (cardAt h c)) slot row row-there
+
+  pub slot-none : row ≡ 0 → at ≡ 0
+  slot-none z = no-row (layoutOf (cardAt h c)) slot row row-there z
+
+  pub slot-column : columnIn row ≡ at
+  slot-column = column-is (layoutOf (cardAt h c)) slot row row-there
+
+  pub slot-gives : (s keys links : List ℕ) (totals : Totals) (vessel column : ℕ) (b : Broken) → s ≡ cardAt h c
+      → vessel ≡ vesselBy layout s → keys ≡ gathered h .keys → links ≡ gathered h .links → totals ≡ totalsOf h
+      → column ≡ columnIn row → b ≡ faultsBy keys links totals s vessel row → entriesFor b (c + 1) column ≡ slotEntries h c slot
+  unfolding slotEntries
+  slot-gives s keys links totals vessel column b card v p q r o w =
+      let own : vessel ≡ vesselOf (cardAt h c) = v ∙ rw (card, is) (vessel-at (cardAt h c)) in
+      let same = row-is (layoutOf (cardAt h c)) slot row row-there in
+      let e : b ≡ brokenFor h (cardAt h c) at = w ∙ rw (p, q, r, card, own, same)
+      (judged h (few-cards h accepted) (printed h accepted) (cardAt h c) (printed h accepted c below) at low) in
+      rw (e, o ∙ slot-column) (of-column h c at)
+
+members-below : (l : List ℕ) (n i : ℕ) → 0 < n → ((x : ℕ) → List·Memᴰ x l → x < n) → getD l i 0 < n
+members-below [] n i z f = z
+members-below (x ∷ l) n zero z f = f x (List·Memᴰ·head refl)
+members-below (x ∷ l) n (suc i) z f = members-below l n i z (λ y m. f y (List·Memᴰ·tail m))
+
+pub column-below : (k slot : ℕ) → getD (tieColumns k) slot 0 < 81
+unfolding tieColumns
+column-below k slot =
+    members-below (kept (canTie k) (upTo 81)) 81 slot (omega arith)
+    (λ x m. out-of-upTo 81 x (out-of-kept (canTie k) (upTo 81) m .0))

@@ -1,0 +1,98 @@
+-- `tie_check::notes::note_layouts` meets its contract.
+use Prim.Native.Nat.{_+_, _*_, _-_, _/_, _≤_, _<_}
+use mathlib.Core.Path.{_≡_, ap, _∙_}
+use lib.ListN.{length}
+use denote.Ref.{now}
+use native.Mathlib.Omega.{arith}
+use borrow.Author.Needs.{needs}
+use Rattle.header_check.specs.forms.Cards.{cardsIn, layoutOf}
+use Rattle.header_check.proofs.forms.Steps.{card-part, card-ends}
+use Rattle.tie_check.specs.packed.Noted.{Noted}
+use Rattle.tie_check.proofs.notes.Noting.{none-noted, noted-more, all-noted}
+use Rattle.tie_check.proofs.notes.note_layouts.Statement.{statement}
+use Rattle.tie_check.proofs.notes.note_layouts.Tie as tie
+
+abbrev Inv-loop : tie.InvT-loop
+Inv-loop header layouts₀ cards place₀ layouts place = (place ≤ length header / 80) × Noted header place layouts
+
+abbrev μ-loop : tie.MeasureT-loop
+μ-loop header layouts₀ cards place₀ layouts place = length header / 80 - place
+
+loop-holds : tie.Need-loop-holds Inv-loop μ-loop
+loop-holds c = (omega arith, none-noted _ _ (c .before .pre .1))
+
+-- the card lies within the header
+within : (c : tie.In-loop Inv-loop μ-loop)
+    → c .before .loop .place * 80 + 80 ≤ length (now (c .before .before .before .args .header))
+within c = card-ends (now (c .before .before .before .args .header)) (c .before .loop .place) (c .loop-test .taken)
+
+-- and there is room to note its layout
+below : (c : tie.In-loop Inv-loop μ-loop) → c .before .loop .place < 800
+unfolding cardsIn
+below c = omega (arith, c .loop-test .taken, c .before .before .before .pre .0)
+
+mul-from : tie.Need-mul-from Inv-loop μ-loop
+mul-from c = omega (arith, within c)
+
+add-card : tie.Need-add-card Inv-loop μ-loop
+add-card c = omega (arith, within c)
+
+sub-card : tie.Need-sub-card Inv-loop μ-loop
+sub-card c = omega (arith, within c)
+
+part-card-start : tie.Need-part-card-start Inv-loop μ-loop
+part-card-start c = omega (arith, within c)
+
+part-card-end : tie.Need-part-card-end Inv-loop μ-loop
+part-card-end c = omega (arith, within c)
+
+layout-of-requires : tie.Need-layout-of-requires Inv-loop μ-loop
+layout-of-requires c κs = search needs
+
+mul-layouts : tie.Need-mul-layouts Inv-loop μ-loop
+mul-layouts c = omega (arith, below (c .before .before))
+
+element-write-layouts : tie.Need-element-write-layouts Inv-loop μ-loop
+element-write-layouts c = omega (arith, below (c .before .before), c .before .before .before .loop .inv .1 .room)
+
+add-place : tie.Need-add-place Inv-loop μ-loop
+add-place c = search needs
+
+loop-less : tie.Need-loop-less Inv-loop μ-loop
+loop-less c = search needs
+
+loop-again : tie.Need-loop-again Inv-loop μ-loop
+loop-again c =
+    let l = c .before .before in
+    let b = l .before .loop in
+    let h = now (l .before .before .before .args .header) in
+    let k = c .layout-of .ensures ∙ ap layoutOf (card-part h (b .place)) in
+    (omega arith, noted-more h _ (b .place) _ (below l) (b .inv .1) k)
+
+returns : tie.Need-returns Inv-loop μ-loop
+unfolding cardsIn
+returns c =
+    let b = c .before .loop in
+    let h = now (c .before .before .before .args .header) in
+    let q : b .place ≡ length h / 80 = omega (arith, b .inv .0) in
+    all-noted h _ _ _ q (b .inv .1)
+
+pub note-layouts-spec : {M : Type 1} → statement M
+note-layouts-spec =
+    tie.close
+    (tie.spec
+    Inv-loop
+    μ-loop
+    loop-holds
+    mul-from
+    add-card
+    sub-card
+    part-card-start
+    part-card-end
+    layout-of-requires
+    mul-layouts
+    element-write-layouts
+    add-place
+    loop-less
+    loop-again
+    returns)

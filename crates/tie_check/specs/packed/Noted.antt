@@ -1,0 +1,18 @@
+-- The layouts of a header's cards as they are noted, and how many cards have a point of the variation grid.
+use Prim.Native.Nat.{ℕ, _<_}
+use mathlib.Core.Path.{_≡_}
+use mathlib.Core.List.{List}
+use lib.Dec.{eqb}
+use lib.ListN.{length, getD}
+use Rattle.base_lists.specs.Count.{count}
+use Rattle.header_check.specs.forms.Cards.{cardAt, layoutOf}
+use Rattle.format_layout.specs.Names.{H0101}
+
+-- those of the first n cards
+pub record Noted (h : List ℕ) (n : ℕ) (layouts : List ℕ) : Type 0 where
+  pub room : length layouts ≡ 800
+  pub layouts-are : (c : ℕ) → c < n → getD layouts c 0 ≡ layoutOf (cardAt h c)
+
+-- the cards with a point of the variation grid among the first ones
+unfoldable pub pointsTo : List ℕ → ℕ → ℕ
+pointsTo h n = count (λ c. eqb (layoutOf (cardAt h c)) H0101) n

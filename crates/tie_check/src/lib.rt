@@ -1,0 +1,34 @@
+// The ties between the cards of a header: the list of those that are broken.
+pub mod entries;
+pub mod gather;
+pub mod judging;
+pub mod listing;
+pub mod notes;
+pub mod totals;
+
+use base_refusal::Refusal;
+use header_check::Checked;
+ghost use mathlib.Core.Path.{_≡_};
+ghost use lib.ListN.{length};
+ghost use Rattle.header_check.specs.Refusing.{refusalOf};
+ghost use Rattle.tie_rules.specs.Faults.{faults, entries};
+ghost use Rattle.tie_check.specs.Answer.{answerFor, listFor};
+
+// The answer of the check: the number of all faults, or the header's refusal.
+pub enum Ties {
+    Found(usize),
+    Refused(Refusal),
+}
+
+// The number of all faults, with their entries in the list as far as they fit; or the header's refusal, and the list as it was.
+pub fn check(header: &[u8], list: &mut [u32]) -> Ties
+    ensures answer { λ r. ⌜ r ≡ answerFor (refusalOf (now (header .entry))) (length (faults (now (header .entry)))) ⌝ }
+    ensures list { λ _. ⌜ now (list .exit)
+        ≡ listFor (refusalOf (now (header .entry))) (now (list .entry)) (entries (faults (now (header .entry)))) ⌝ }
+{
+    let checked = header_check::check(header);
+    match checked {
+        Checked::Accepted => Ties::Found(listing::list_faults(header, list)),
+        Checked::Refused(refusal) => Ties::Refused(refusal),
+    }
+}

@@ -1,0 +1,112 @@
+// All broken ties of a header, in order, in a lent list as far as they fit.
+use crate::entries;
+use crate::gather;
+use crate::judging;
+use crate::notes;
+use crate::totals;
+use crate::totals::Totals;
+use format_layout::CARD;
+use format_layout::CARDS;
+use header_check::Checked;
+use tie_rules::SLOTS;
+use tie_rules::keys;
+use tie_store::LINKS;
+use tie_store::ROOM;
+ghost use mathlib.Core.Path.{_≡_};
+ghost use Prim.Native.Nat.{_+_, _*_, _<_, _≤_};
+ghost use lib.ListN.{length};
+ghost use Rattle.base_lists.specs.Laid.{laid};
+ghost use Rattle.tie_rules.specs.Faults.{faults, entries};
+ghost use Rattle.header_check.specs.forms.Cards.{cardsIn};
+ghost use Rattle.header_check.specs.Refusing.{refusalOf};
+ghost use Rattle.tie_check.specs.packed.Noted.{Noted};
+ghost use Rattle.tie_check.specs.packed.Gathered.{gathered};
+ghost use Rattle.tie_check.specs.packed.Totals.{totalsOf};
+ghost use Rattle.tie_check.specs.packed.Listed.{cardEntries};
+ghost use Rattle.tie_check.specs.packed.Stored.{storedAll};
+
+// The faults of the card with a number, from 0, at the columns that can carry a tie.
+fn list_card(
+    list: &mut [u32],
+    found: usize,
+    header: &[u8],
+    layouts: &[usize; CARDS],
+    store: &[u64; ROOM],
+    links: &[u16; LINKS],
+    totals: Totals,
+    place: usize,
+) -> usize
+    requires { ⌜ refusalOf (now header) ≡ Checked.Accepted ⌝ }
+    requires { ⌜ Noted (now header) (cardsIn (now header)) (now layouts) ⌝ }
+    requires { ⌜ (now store ≡ gathered (now header) .keys) × (now links ≡ gathered (now header) .links) ⌝ }
+    requires { ⌜ totals ≡ totalsOf (now header) ⌝ }
+    requires { ⌜ (place < cardsIn (now header)) × (found ≤ 25 * place) ⌝ }
+    ensures list { λ _. ⌜ now (list .exit)
+        ≡ storedAll (now (list .entry)) found (cardEntries (now (header .entry)) place) ⌝ }
+    ensures number { λ r. ⌜ r ≡ found + length (cardEntries (now (header .entry)) place) ⌝ }
+    ensures few { λ r. ⌜ r ≤ found + 25 ⌝ }
+{
+    let from = place * CARD;
+    let card = &header[from..from + CARD];
+    let layout = layouts[place];
+    let vessel = keys::vessel_of(card, layout);
+    let mut m = found;
+    let mut slot: usize = 0;
+    while slot < SLOTS {
+        let row = tie_rules::tie_of(layout, slot + 1);
+        if row == 0 {
+            return m;
+        }
+        let broken = judging::faults_by(store, links, totals, card, vessel, row);
+        m = entries::put_all(
+            list,
+            m,
+            broken,
+            (place + 1) as u32,
+            keys::column_of(row) as u32,
+        );
+        slot += 1;
+    }
+    m
+}
+
+// The faults of all cards.
+fn list_cards(
+    list: &mut [u32],
+    header: &[u8],
+    layouts: &[usize; CARDS],
+    store: &[u64; ROOM],
+    links: &[u16; LINKS],
+    totals: Totals,
+) -> usize
+    requires { ⌜ refusalOf (now header) ≡ Checked.Accepted ⌝ }
+    requires { ⌜ Noted (now header) (cardsIn (now header)) (now layouts) ⌝ }
+    requires { ⌜ (now store ≡ gathered (now header) .keys) × (now links ≡ gathered (now header) .links) ⌝ }
+    requires { ⌜ totals ≡ totalsOf (now header) ⌝ }
+    ensures list { λ _. ⌜ now (list .exit) ≡ laid 3 (now (list .entry)) (entries (faults (now (header .entry)))) ⌝ }
+    ensures number { λ r. ⌜ r ≡ length (faults (now (header .entry))) ⌝ }
+{
+    let count = header.len() / CARD;
+    let mut found: usize = 0;
+    let mut place: usize = 0;
+    while place < count {
+        found = list_card(list, found, header, layouts, store, links, totals, place);
+        place += 1;
+    }
+    found
+}
+
+// The faults of a header that was accepted.
+pub fn list_faults(header: &[u8], list: &mut [u32]) -> usize
+    requires { ⌜ refusalOf (now header) ≡ Checked.Accepted ⌝ }
+    ensures list { λ _. ⌜ now (list .exit) ≡ laid 3 (now (list .entry)) (entries (faults (now (header .entry)))) ⌝ }
+    ensures number { λ r. ⌜ r ≡ length (faults (now (header .entry))) ⌝ }
+{
+    let mut layouts = [0usize; CARDS];
+    let mut store = [0u64; ROOM];
+    let mut links = [0u16; LINKS];
+    notes::note_layouts(header, &mut layouts);
+    gather::gather(header, &layouts, &mut store, &mut links);
+    let totals = totals::totals_of(header, &layouts, &store, &links);
+    list_cards(list, header, &layouts, &store, &links, totals)
+}

@@ -1,0 +1,42 @@
+// The layouts of a header's cards, each found once, so that every later pass reads them.
+use format_layout::CARD;
+use format_layout::CARDS;
+use format_layout::names::H0101;
+use header_check::forms;
+ghost use mathlib.Core.Path.{_≡_};
+ghost use Prim.Native.Nat.{_≤_};
+ghost use lib.ListN.{length};
+ghost use Rattle.header_check.specs.forms.Cards.{cardsIn};
+ghost use Rattle.tie_check.specs.packed.Noted.{Noted, pointsTo};
+
+// Notes the layout of every card.
+pub fn note_layouts(header: &[u8], layouts: &mut [usize; CARDS])
+    requires { ⌜ cardsIn (now header) ≤ 800 ⌝ }
+    requires { ⌜ length (now layouts) ≡ 800 ⌝ }
+    ensures { λ _. ⌜ Noted (now (header .entry)) (cardsIn (now (header .entry))) (now (layouts .exit)) ⌝ }
+{
+    let cards = header.len() / CARD;
+    let mut place: usize = 0;
+    while place < cards {
+        let from = place * CARD;
+        let card = &header[from..from + CARD];
+        layouts[place] = forms::layout_of(card);
+        place += 1;
+    }
+}
+
+// How many cards have a point of the variation grid.
+pub fn points_in(header: &[u8], layouts: &[usize; CARDS]) -> usize
+    requires { ⌜ cardsIn (now header) ≤ 800 ⌝ }
+    requires { ⌜ Noted (now header) (cardsIn (now header)) (now layouts) ⌝ }
+    ensures { λ r. ⌜ r ≡ pointsTo (now (header .entry)) (cardsIn (now (header .entry))) ⌝ }
+{
+    let count = header.len() / CARD;
+    let mut found: usize = 0;
+    let mut place = 0;
+    while place < count {
+        found += base_lists::bit_of(layouts[place] == H0101);
+        place += 1;
+    }
+    found
+}

@@ -1,0 +1,2 @@
+pub mod questions
+pub mod packed

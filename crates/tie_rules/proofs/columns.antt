@@ -1,0 +1,4 @@
+pub mod Defining
+pub mod Picked
+pub mod Slots
+pub mod Tied

@@ -1,0 +1,6 @@
+pub mod Ties
+pub mod Keys
+pub mod Offered
+pub mod Definitions
+pub mod Faults
+pub mod packed

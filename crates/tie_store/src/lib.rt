@@ -1,0 +1,178 @@
+// The store of definitions: entries of a key and a tag, each joined to the one before it in its key's bucket. An entry knows how
+// many up to and with itself have its key, so a key is counted by walking its chain to the last entry that has it, and no
+// further. A caller lends two arrays of zeros, adds one entry after the other, and then asks.
+ghost use mathlib.Core.Path.{_≡_};
+ghost use Prim.Native.Nat.{_+_, _<_};
+ghost use lib.ListN.{getD};
+ghost use Rattle.base_lists.specs.Count.{count};
+ghost use Rattle.tie_store.specs.Store.{room, linkRoom, buckets, bucket, countIn, holds, last, onceTo, nothingTold, toldOf, keysWith, entryWith, headWith, linksWith, Linked};
+
+// As many entries as 800 cards can have, one for each column that can carry a tie, of which a card has at most five.
+pub const ROOM: usize = 4000;
+
+// A prime, so that numbers and texts of seven bits a letter both spread. Keys chosen to share a bucket are walked past one by one.
+const BUCKETS: usize = 3989;
+
+// The links: how many entries there are; for each entry the one before it in its bucket, how many up to and with it have its
+// key, and its tag; for each bucket its last entry. An entry is named by its number from 1, so that 0 is the end of a chain.
+const NEXT: usize = 1;
+
+const TIMES: usize = 4001;
+
+const TAGS: usize = 8001;
+
+const HEADS: usize = 12001;
+
+pub const LINKS: usize = 15990;
+
+// A tag that says nothing.
+const NO_TAG: u16 = 10;
+
+// What is told of a key: how many entries have it, and the tag of the only one, NO_TAG where there is not exactly one.
+pub struct Told {
+    pub times: usize,
+    pub tag: u16,
+}
+
+// The bucket of a key.
+fn bucket_of(key: u64) -> usize
+    ensures { λ r. ⌜ (r ≡ bucket key) × (r < buckets) ⌝ }
+{
+    (key % BUCKETS as u64) as usize
+}
+
+fn wide(link: u16) -> usize
+    ensures { λ r. ⌜ r ≡ link ⌝ }
+{
+    link as usize
+}
+
+fn at(links: &[u16; LINKS], i: usize) -> usize
+    requires { ⌜ i < linkRoom ⌝ }
+    ensures { λ r. ⌜ r ≡ getD (now (links .entry)) i 0 ⌝ }
+{
+    wide(links[i])
+}
+
+// How many entries there are.
+pub fn entries_in(links: &[u16; LINKS]) -> usize
+    ensures { λ r. ⌜ r ≡ countIn (now (links .entry)) ⌝ }
+{
+    at(links, 0)
+}
+
+// The last entry that has a key, named as in a chain; 0 where none has.
+fn find(keys: &[u64; ROOM], links: &[u16; LINKS], key: u64) -> usize
+    requires { ⌜ Linked (now keys) (now links) ⌝ }
+    ensures { λ r. ⌜ r ≡ last (holds (now (keys .entry)) key) (countIn (now (links .entry))) ⌝ }
+{
+    let mut link = at(links, HEADS + bucket_of(key));
+    while link > 0 {
+        if keys[link - 1] == key {
+            return link;
+        }
+        link = at(links, NEXT + (link - 1));
+    }
+    0
+}
+
+// How many entries have a key.
+fn times_of(keys: &[u64; ROOM], links: &[u16; LINKS], key: u64) -> usize
+    requires { ⌜ Linked (now keys) (now links) ⌝ }
+    ensures { λ r. ⌜ r ≡ count (holds (now (keys .entry)) key) (countIn (now (links .entry))) ⌝ }
+{
+    let link = find(keys, links, key);
+    if link == 0 {
+        return 0;
+    }
+    at(links, TIMES + (link - 1))
+}
+
+// What is told where nothing has a key.
+fn nothing() -> Told
+    ensures { λ r. ⌜ r ≡ nothingTold ⌝ }
+{
+    Told {
+        times: 0,
+        tag: NO_TAG,
+    }
+}
+
+// What is told of a key; 0 is no key. The tag is handed back and not judged, so that what contradicts is said in one place.
+pub fn look_up(keys: &[u64; ROOM], links: &[u16; LINKS], key: u64) -> Told
+    requires { ⌜ Linked (now keys) (now links) ⌝ }
+    ensures { λ r. ⌜ r ≡ toldOf (now (keys .entry)) (now (links .entry)) key ⌝ }
+{
+    if key == 0 {
+        return nothing();
+    }
+    let link = find(keys, links, key);
+    if link == 0 {
+        return nothing();
+    }
+    let times = at(links, TIMES + (link - 1));
+    if times != 1 {
+        return Told { times, tag: NO_TAG };
+    }
+    let tag = links[TAGS + (link - 1)];
+    Told { times, tag }
+}
+
+// A number as a link, and as a number of times.
+fn narrow(n: usize) -> u16
+    requires { ⌜ n < room ⌝ }
+    ensures { λ r. ⌜ r ≡ n + 1 ⌝ }
+{
+    (n + 1) as u16
+}
+
+// The links of the entry n.
+fn lay_entry(links: &mut [u16; LINKS], n: usize, tag: u16, times: u16, next: u16)
+    requires { ⌜ n < room ⌝ }
+    ensures { λ _. ⌜ now (links .exit) ≡ entryWith (now (links .entry)) n tag times next ⌝ }
+{
+    links[TAGS + n] = tag;
+    links[TIMES + n] = times;
+    links[NEXT + n] = next;
+}
+
+// The entry n as the last of its bucket, and of all.
+fn lay_head(links: &mut [u16; LINKS], n: usize, b: usize)
+    requires { ⌜ (n < room) × (b < buckets) ⌝ }
+    ensures { λ _. ⌜ now (links .exit) ≡ headWith (now (links .entry)) n b ⌝ }
+{
+    let link = narrow(n);
+    links[HEADS + b] = link;
+    links[0] = link;
+}
+
+// One entry more.
+pub fn add(keys: &mut [u64; ROOM], links: &mut [u16; LINKS], key: u64, tag: u16)
+    requires { ⌜ Linked (now keys) (now links) ⌝ }
+    requires { ⌜ countIn (now links) < room ⌝ }
+    ensures keys { λ _. ⌜ now (keys .exit) ≡ keysWith (now (keys .entry)) (now (links .entry)) key ⌝ }
+    ensures links { λ _. ⌜ now (links .exit) ≡ linksWith (now (keys .entry)) (now (links .entry)) key tag ⌝ }
+{
+    let n = entries_in(links);
+    let b = bucket_of(key);
+    let times = narrow(times_of(keys, links, key));
+    let head = links[HEADS + b];
+    keys[n] = key;
+    lay_entry(links, n, tag, times, head);
+    lay_head(links, n, b);
+}
+
+// Whether each entry was the first with its key. No early exit, so that it is done several entries at a time.
+pub fn once_each(links: &[u16; LINKS]) -> bool
+    requires { ⌜ countIn (now links) < room + 1 ⌝ }
+    ensures { λ r. ⌜ r ≡ onceTo (now (links .entry)) (countIn (now (links .entry))) ⌝ }
+{
+    let n = entries_in(links);
+    let mut once = true;
+    let mut i: usize = 0;
+    while i < n {
+        once = once & (links[TIMES + i] < 2);
+        i += 1;
+    }
+    once
+}

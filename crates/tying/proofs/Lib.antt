@@ -1,4 +1,0 @@
--- Laws of the columns that can carry a broken tie.
-pub mod Defining
-pub mod Tied
-pub mod Slots

@@ -1,0 +1,4 @@
+pub mod angle
+pub mod axes
+pub mod coordinate_entry
+pub mod grid

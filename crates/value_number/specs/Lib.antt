@@ -1,0 +1,3 @@
+pub mod number
+pub mod number_entry
+pub mod packed

@@ -1,0 +1,3 @@
+pub mod printable
+pub mod text
+pub mod packed
