@@ -80,7 +80,7 @@ int64_t p294_read_field(const uint8_t *card, size_t length, size_t field, size_t
 
 /* The columns of the text in a field. said is P294_TEXT and numbers are its first and last column, so the text is
  * card + numbers[0] - 1 and has numbers[1] - numbers[0] + 1 bytes. said is 0 and so are all numbers where there is no text:
- * the field is blank, is of another kind, or is refused (p294_read_field says why). It never refuses. */
+ * the field is blank or of another kind. Refused as p294_read_field. */
 int64_t p294_read_text(const uint8_t *card, size_t length, size_t field, size_t form, int64_t *numbers, size_t room);
 
 /* Makes a lent card a new one: the code, the label that goes with it, and blanks, whatever stood there. said is 0.

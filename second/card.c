@@ -614,7 +614,7 @@ struct refusal judge_card(const uint8_t *card, size_t size, unsigned form)
 {
     const struct layout *l;
     if (size != CARD_SIZE)
-        return refused(2, 0, 0);
+        return refused(size == 0 ? 1 : 2, 0, 0);
     struct refusal r = look_at(card, &l);
     if (r.number || l == NULL)
         return r;

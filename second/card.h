@@ -65,7 +65,7 @@ struct refusal open_card(const uint8_t *code, size_t code_size, uint8_t *card, s
 struct refusal put_value(uint8_t *card, size_t size, uint64_t number, uint64_t form, const struct value *value);
 struct refusal put_text(uint8_t *card, size_t size, uint64_t number, uint64_t form, const uint8_t *text, size_t length);
 
-// The first offence of a card by itself, its coordinates read by a form or passed over; not eighty bytes are a 2.
+// The first offence of a card by itself, its coordinates read by a form or passed over.
 struct refusal judge_card(const uint8_t *card, size_t size, unsigned form);
 
 #endif

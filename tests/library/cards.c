@@ -29,15 +29,11 @@ static void hold_field(const struct input *in, struct test *t, struct lent l)
 
 static void hold_text(const struct input *in, struct test *t, struct lent l)
 {
-    const uint8_t *text;
-    struct expected none = {0, {0, 0, 0}}, some = {P294_TEXT, {0, 0, 0}};
-    size_t length = read_text(t->card.at, t->card.size, t->number, t->form, &text);
-    if (length > 0) {
-        some.numbers[0] = text - t->card.at + 1;
-        some.numbers[1] = some.numbers[0] + (int64_t)length - 1;
-    }
+    struct value v = {0};
+    struct refusal r = read_field(t->card.at, t->card.size, t->number, t->form, &v);
+    struct expected none = {0, {0, 0, 0}};
     int64_t said = p294_read_text(in->bytes, in->size, t->number, t->form, l.numbers, l.room);
-    hold(in, length > 0 ? some : none, said, &l);
+    hold(in, r.number ? refused(r) : v.kind == VALUE_TEXT ? value_expected(&v) : none, said, &l);
 }
 
 // A value as the library takes it. What no value of the second implementation can be stands for one that it refuses alike:

@@ -166,9 +166,13 @@ module _ (k : ℕ) (form : Form) (s : List ℕ) where
 
 -- the card before its columns
 module _ (s : List ℕ) (form : Form) where
-  pub verdict-odd : (length s ≡ 80 → ⊥) → verdictOf s form ≡ Offence 2 0
+  pub verdict-empty : length s ≡ 0 → verdictOf s form ≡ Offence 1 0
   unfolding verdictOf
-  verdict-odd h = rw (ne-eqb (length s) 80 h)
+  verdict-empty h = rw (eq-eqb (length s) 0 h)
+
+  pub verdict-odd : (length s ≡ 0 → ⊥) → (length s ≡ 80 → ⊥) → verdictOf s form ≡ Offence 2 0
+  unfolding verdictOf
+  verdict-odd some h = rw (ne-eqb (length s) 0 some, ne-eqb (length s) 80 h)
 
   module _ (whole : length s ≡ 80) (bad : ℕ) (is : bad ≡ firstBad s) where
     pub verdict-bad : bad < 80 → verdictOf s form ≡ Offence 4 (bad + 1)

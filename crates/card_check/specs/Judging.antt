@@ -81,8 +81,10 @@ codeVerdict code.Unknown form s = Offence 5 1
 codeVerdict code.Passed form s = Fine
 codeVerdict (code.Read k) form s = verdictFrom (offenceAt k form s) 6
 
--- a card's verdict: 2 where it has not 80 columns, 4 at its leftmost byte that is not printable, 5, and then its columns
+-- a card's verdict: 1 where it has no columns, 2 where they are not 80, 4 at its leftmost byte that is not printable, 5, and then
+-- its columns
 unfoldable pub verdictOf : List ℕ → Form → Verdict
 verdictOf s form =
-    cond (not (eqb (length s) 80)) (Offence 2 0)
-    (cond (ltb (firstBad s) 80) (Offence 4 (firstBad s + 1)) (codeVerdict (codeOf (take 5 s)) form s))
+    cond (eqb (length s) 0) (Offence 1 0)
+    (cond (not (eqb (length s) 80)) (Offence 2 0)
+    (cond (ltb (firstBad s) 80) (Offence 4 (firstBad s + 1)) (codeVerdict (codeOf (take 5 s)) form s)))

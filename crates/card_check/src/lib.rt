@@ -1,6 +1,7 @@
 // One card judged by itself: its first offence and where it stands.
 pub mod offences;
 
+use base_refusal::EMPTY;
 use base_refusal::MISLABELLED;
 use base_refusal::ODD_LENGTH;
 use base_refusal::STRAY;
@@ -202,6 +203,9 @@ pub fn judge_by(card: &[u8], code: Code, form: Form) -> Verdict
 pub fn judge_card(card: &[u8], form: Form) -> Verdict
     ensures { λ r. ⌜ r ≡ verdictOf (now (card .entry)) form ⌝ }
 {
+    if card.len() == 0 {
+        return Verdict::Offence(EMPTY, 0);
+    }
     if card.len() != CARD {
         return Verdict::Offence(ODD_LENGTH, 0);
     }

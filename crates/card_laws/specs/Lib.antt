@@ -1,1 +1,2 @@
 pub mod exactly
+pub mod rewriting

@@ -2,6 +2,7 @@
 pub mod Rows
 pub mod Exactly
 pub mod Accepted
+pub mod Readings
 pub mod Opens
 pub mod Moved
 pub mod Examples

@@ -136,7 +136,7 @@ pub fn of_field(read: FieldRead) -> Reply
     }
 }
 
-// The reading of a field as a text, by the answer to it: all but a text is none.
+// The reading of a field as a text, by the answer to it: a value of another kind is none.
 pub fn of_text(reply: Reply) -> Reply
     ensures { λ r. ⌜ r ≡ textAlone reply ⌝ }
 {
@@ -144,7 +144,10 @@ pub fn of_text(reply: Reply) -> Reply
     if said == TEXT {
         return reply;
     }
-    done()
+    if 0 < said {
+        return done();
+    }
+    reply
 }
 
 // What came of an entry.

@@ -7,13 +7,13 @@ ghost use mathlib.Core.Path.{_≡_};
 ghost use Prim.Native.Nat.{_≤_};
 ghost use lib.ListN.{length};
 ghost use Rattle.header_check.specs.forms.Cards.{cardsIn};
-ghost use Rattle.tie_check.specs.packed.Noted.{Noted, pointsTo};
+ghost use Rattle.tie_check.specs.packed.Noted.{Noted, notedTo, pointsTo};
 
 // Notes the layout of every card.
 pub fn note_layouts(header: &[u8], layouts: &mut [usize; CARDS])
     requires { ⌜ cardsIn (now header) ≤ 800 ⌝ }
     requires { ⌜ length (now layouts) ≡ 800 ⌝ }
-    ensures { λ _. ⌜ Noted (now (header .entry)) (cardsIn (now (header .entry))) (now (layouts .exit)) ⌝ }
+    ensures { λ _. ⌜ now (layouts .exit) ≡ notedTo (now (header .entry)) (now (layouts .entry)) (cardsIn (now (header .entry))) ⌝ }
 {
     let cards = header.len() / CARD;
     let mut place: usize = 0;

@@ -8,6 +8,7 @@ pub mod Moved
 pub mod Rearranged
 pub mod Questions
 pub mod Counts
+pub mod Readings
 pub mod Shapes
 pub mod CardByCard
 pub mod Collected

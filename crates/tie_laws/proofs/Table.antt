@@ -10,19 +10,21 @@ use Rattle.base_lists.specs.Parts.{upTo}
 use Rattle.format_layout.specs.Shape.{bytes, Layout}
 use Rattle.format_layout.specs.declared.Kind.{Kind}
 use Rattle.format_layout.specs.declared.Kind.the-variants.{Text, Comment, Whole, Decimal, Date, Latitude, Longitude}
-use Rattle.format_layout.specs.declared.Field.{Field}
+use Rattle.format_layout.specs.declared.Found.{Found}
+use Rattle.format_layout.specs.declared.Found.the-variants.{Is, Nothing}
 use Rattle.format_layout.specs.Table.{layouts}
-use Rattle.format_layout.specs.Layouts.{layoutAt, fieldsOf}
+use Rattle.format_layout.specs.Layouts.{layoutAt, fieldsOf, fieldOf}
 use Rattle.tie_rules.specs.Ties.{Source, digit, whole, serial, waypoint, only, nothing, Tie, ties, lineIn, lineFor, hasVessel}
+use Rattle.tie_rules.specs.Readings.{numberFrom, numberAt}
 use Rattle.format_layout.specs.Names.{H00X8, H00X9, H0100, H0101, H011X, H0120, H17X0, H17X1, H21X0, H21X1, H21X2, H21X3, H22X0, H23X0}
 
 -- the names of the layouts are those of their codes, with X for @ or #
-pub named : map (λ k. layoutAt k .code) (
+pub names-of : map (λ k. layoutAt k .code) (
     H00X8 ∷ H00X9 ∷ H0100 ∷ H0101 ∷ H011X ∷ H0120 ∷ H17X0 ∷ H17X1 ∷ H21X0 ∷ H21X1 ∷ H21X2 ∷ H21X3 ∷ H22X0 ∷ H23X0 ∷ []) ≡
     bytes "H00#8" ∷ bytes "H00#9" ∷ bytes "H0100" ∷ bytes "H0101" ∷ bytes "H011@" ∷ bytes "H0120" ∷ bytes "H17@0" ∷
     bytes "H17@1" ∷ bytes "H21@0" ∷ bytes "H21@1" ∷ bytes "H21@2" ∷ bytes "H21@3" ∷ bytes "H22@0" ∷ bytes "H23@0" ∷ []
 unfolding layouts layoutAt
-named = refl
+names-of = refl
 
 -- no line hides another: each is the one for its role, layout and column
 pub every-line-found : map (λ (t : Tie). lineFor (t .role) (t .layout) (t .column)) ties ≡ ties
@@ -38,7 +40,7 @@ pub vessels-by-code : map hasVessel (upTo (length layouts)) ≡ map (λ (l : Lay
 unfolding layouts hasVessel upTo
 vessels-by-code = refl
 
-abbrev isWhole : Kind → Bool
+abbrev pub isWhole : Kind → Bool
 isWhole Text = false
 isWhole Comment = false
 isWhole Whole = true
@@ -47,7 +49,7 @@ isWhole Date = false
 isWhole Latitude = false
 isWhole Longitude = false
 
-abbrev isText : Kind → Bool
+abbrev pub isText : Kind → Bool
 isText Text = true
 isText Comment = false
 isText Whole = false
@@ -56,32 +58,41 @@ isText Date = false
 isText Latitude = false
 isText Longitude = false
 
--- one of some fields is of a kind and has these columns
-abbrev isField : (Kind → Bool) → ℕ → ℕ → List Field → Bool
-isField is first last [] = false
-isField is first last (f ∷ fs) = (is (f .kind) && (eqb (f .first) first && eqb (f .last) last)) || isField is first last fs
+-- a field was found, of a kind and with these columns
+abbrev pub stands : (Kind → Bool) → ℕ → ℕ → Found → Bool
+stands is first last Nothing = false
+stands is first last (Is f) = is (f .kind) && (eqb (f .first) first && eqb (f .last) last)
 
--- where a key of a layout stands, in a column, there is a field of its kind that begins there
-abbrev isIn : ℕ → ℕ → Source → Bool
+-- the columns of a key are those of fields of its kind
+abbrev pub named : ℕ → Source → Bool
+named k digit = true
+named k (whole first last) = stands isWhole first last (fieldOf k (numberAt k first))
+named k (serial first last) = stands isText first last (fieldOf k (numberAt k first))
+named k (waypoint first last) =
+    stands isWhole 7 7 (fieldOf k (numberAt k 7)) && stands isWhole first last (fieldOf k (numberAt k first))
+named k only = true
+named k nothing = true
+
+-- a key of a layout that is listed at a column begins there; a code's digit is its fifth byte
+abbrev pub isIn : ℕ → ℕ → Source → Bool
 isIn k column digit = eqb column 5 && isDigit (getD (layoutAt k .code) 4 0)
-isIn k column (whole first last) = eqb column first && isField isWhole first last (fieldsOf k)
-isIn k column (serial first last) = eqb column first && isField isText first last (fieldsOf k)
-isIn k column (waypoint first last) =
-    eqb column first && (isField isWhole first last (fieldsOf k) && isField isWhole 7 7 (fieldsOf k))
+isIn k column (whole first last) = eqb column first && named k (whole first last)
+isIn k column (serial first last) = eqb column first && named k (serial first last)
+isIn k column (waypoint first last) = eqb column first && named k (waypoint first last)
 isIn k column only = true
 isIn k column nothing = false
 
-abbrev everyLine : List Tie → Bool
+abbrev pub everyLine : List Tie → Bool
 everyLine [] = true
 everyLine (t ∷ ts) = isIn (t .layout) (t .column) (t .source) && everyLine ts
 
 pub lines-name-fields : everyLine ties ≡ true
-unfolding ties layouts layoutAt fieldsOf
+unfolding ties layouts layoutAt fieldsOf fieldOf numberFrom numberAt
 lines-name-fields = refl
 
 -- so do the columns that state a vessel or a count
 pub stated-are-fields : (
-    isField isWhole 30 30 (fieldsOf H00X8) && (isField isWhole 7 7 (fieldsOf H00X9)
-    && (isField isWhole 79 80 (fieldsOf H00X8) && isField isWhole 16 19 (fieldsOf H0100)))) ≡ true
-unfolding layouts layoutAt fieldsOf
+    stands isWhole 30 30 (fieldOf H00X8 (numberAt H00X8 30)) && (stands isWhole 7 7 (fieldOf H00X9 (numberAt H00X9 7))
+    && (stands isWhole 79 80 (fieldOf H00X8 (numberAt H00X8 79)) && stands isWhole 16 19 (fieldOf H0100 (numberAt H0100 16))))) ≡ true
+unfolding layouts layoutAt fieldsOf fieldOf numberFrom numberAt
 stated-are-fields = refl

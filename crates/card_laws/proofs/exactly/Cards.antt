@@ -116,7 +116,7 @@ code-given s form (code.Read k) q = columns-given s form k q 75 6 (omega arith) 
 -- the refusal in a verdict is the first that the card's table gives
 pub verdict-given : (s : List ℕ) (form : Form) → inVerdict (verdictOf s form) ≡ given (judgeRows s form)
 unfolding verdictOf judgeRows given
-verdict-given s form = go (eqb (length s) 80) refl
+verdict-given s form = none (eqb (length s) 0)
   where
     bytes : (p : Bool)
         → inVerdict (cond (not p) (Offence 4 (firstBad s + 1)) (codeVerdict (codeOf (take 5 s)) form s))
@@ -134,6 +134,16 @@ verdict-given s form = go (eqb (length s) 80) refl
         (given (columnsFrom form s 75 6))))
     go false q = refl
     go true q = rw (bad-byte s (eqb-true (length s) 80 q)) (bytes (printable s))
+
+    none : (b : Bool)
+        → inVerdict (cond b (Offence 1 0) (cond (not (eqb (length s) 80)) (Offence 2 0)
+        (cond (ltb (firstBad s) 80) (Offence 4 (firstBad s + 1)) (codeVerdict (codeOf (take 5 s)) form s))))
+        ≡ cond b (some (refusal 1 0 0)) (cond (not (eqb (length s) 80)) (some (refusal 2 0 0))
+        (cond (not (printable s)) (some (refusal 4 1 (firstBad s + 1)))
+        (cond (isUnknown (codeOf (take 5 s))) (some (refusal 5 1 1))
+        (given (columnsFrom form s 75 6)))))
+    none true = refl
+    none false = go (eqb (length s) 80) refl
 
 offence-as : (v : Verdict) (r : Refusal)
     → ((v ≡ Offence (r .number) (r .column)) × (r .card ≡ cardOf (r .column))) ↔ (inVerdict v ≡ some r)

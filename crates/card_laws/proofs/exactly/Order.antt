@@ -35,8 +35,8 @@ pub open-order : (text : List ℕ) (size : ℕ) → numbersOf (openRows text siz
 unfolding openRows
 open-order text size = refl
 
--- judging: these three, and then the columns
-pub judge-order : (s : List ℕ) (form : Form) → take 3 (numbersOf (judgeRows s form)) ≡ 2 ∷ 4 ∷ 5 ∷ []
+-- judging: these four, and then the columns
+pub judge-order : (s : List ℕ) (form : Form) → take 4 (numbersOf (judgeRows s form)) ≡ 1 ∷ 2 ∷ 4 ∷ 5 ∷ []
 unfolding judgeRows
 judge-order s form = refl
 

@@ -21,8 +21,8 @@ use Rattle.card_check.specs.declared.Verdict.the-variants.{Fine, Offence}
 use Rattle.card_check.specs.Judging.{offenceAt, verdictFrom, codeVerdict, verdictOf}
 use Rattle.card_check.proofs.Leftmost.{decides, skips, ends}
 use Rattle.card_check.proofs.Verdicts.{first-offence, fine-everywhere}
-use Rattle.card_check.proofs.Ways.{verdict-odd, verdict-bad, verdict-coded}
-use Rattle.card_laws.specs.exactly.Offences.{Sound, BadByte, Leftmost, Offends, size, byte, unknown, column, IsFine, passed, read}
+use Rattle.card_check.proofs.Ways.{verdict-empty, verdict-odd, verdict-bad, verdict-coded}
+use Rattle.card_laws.specs.exactly.Offences.{Sound, BadByte, Leftmost, Offends, empty, size, byte, unknown, column, IsFine, passed, read}
 use Rattle.card_laws.proofs.exactly.Way.{bad-byte}
 
 number-same : (m n c d : ℕ) → Offence m c ≡ Offence n d → n ≡ m
@@ -80,12 +80,16 @@ module _ (s : List ℕ) (form : Form) where
 
   -- the length, the bytes, and then the code decide
   data Way : Type 0 where
-    odd : (length s ≡ 80 → ⊥) → Way
+    nothing : length s ≡ 0 → Way
+    odd : (length s ≡ 0 → ⊥) → (length s ≡ 80 → ⊥) → Way
     bad : BadByte s (firstBad s + 1) → Way
     code-is : Sound s → (c : Code) → codeOf (take 5 s) ≡ c → Way
 
   way : Way
-  way = elim (ℕ-discrete (length s) 80) [ yes whole ↦ go whole (printable s) refl | no h ↦ odd h ]
+  way = elim (ℕ-discrete (length s) 80) [
+    | yes whole ↦ go whole (printable s) refl
+    | no h ↦ elim (ℕ-discrete (length s) 0) [ yes e ↦ nothing e | no e ↦ odd e h ]
+  ]
     where
       go : length s ≡ 80 → (b : Bool) → printable s ≡ b → Way
       go whole true q = code-is (record { whole = whole; printed = q }) (codeOf (take 5 s)) refl
@@ -93,9 +97,12 @@ module _ (s : List ℕ) (form : Form) where
 
   to-offends : (n d : ℕ) → Way → verdictOf s form ≡ Offence n d → Offends s form n d
   unfolding codeVerdict
-  to-offends n d (odd h) e =
-      let o = sym (verdict-odd s form h) ∙ e in
-      size h (number-same 2 n 0 d o) (column-same 2 n 0 d o)
+  to-offends n d (nothing h) e =
+      let o = sym (verdict-empty s form h) ∙ e in
+      empty h (number-same 1 n 0 d o) (column-same 1 n 0 d o)
+  to-offends n d (odd some h) e =
+      let o = sym (verdict-odd s form some h) ∙ e in
+      size some h (number-same 2 n 0 d o) (column-same 2 n 0 d o)
   to-offends n d (bad b) e =
       let o = sym (byte-verdict (firstBad s + 1) b) ∙ e in
       byte (subst (BadByte s) (sym (column-same 4 n (firstBad s + 1) d o)) b) (number-same 4 n (firstBad s + 1) d o)
@@ -108,7 +115,8 @@ module _ (s : List ℕ) (form : Form) where
 
   from-offends : (n d : ℕ) → Offends s form n d → verdictOf s form ≡ Offence n d
   unfolding codeVerdict
-  from-offends n d (size h p q) = verdict-odd s form h ∙ ap₂ Offence (sym p) (sym q)
+  from-offends n d (empty h p q) = verdict-empty s form h ∙ ap₂ Offence (sym p) (sym q)
+  from-offends n d (size some h p q) = verdict-odd s form some h ∙ ap₂ Offence (sym p) (sym q)
   from-offends n d (byte b p) = byte-verdict d b ∙ ap (λ m. Offence m d) (sym p)
   from-offends n d (unknown h c p q) = sound-verdict h code.Unknown c ∙ ap₂ Offence (sym p) (sym q)
   from-offends n d (column h k c l) = sound-verdict h (code.Read k) c ∙ from-leftmost (offenceAt k form s) n d l
@@ -119,7 +127,8 @@ module _ (s : List ℕ) (form : Form) where
 
   to-fine : Way → verdictOf s form ≡ Fine → IsFine s form
   unfolding codeVerdict
-  to-fine (odd h) e = absurd (never-fine 2 0 (sym e ∙ verdict-odd s form h))
+  to-fine (nothing h) e = absurd (never-fine 1 0 (sym e ∙ verdict-empty s form h))
+  to-fine (odd some h) e = absurd (never-fine 2 0 (sym e ∙ verdict-odd s form some h))
   to-fine (bad b) e = absurd (never-fine 4 (firstBad s + 1) (sym e ∙ byte-verdict (firstBad s + 1) b))
   to-fine (code-is h code.Unknown q) e = absurd (never-fine 5 1 (sym e ∙ sound-verdict h code.Unknown q))
   to-fine (code-is h code.Passed q) e = passed h q

@@ -16,7 +16,7 @@ use Rattle.card_field.specs.judging.Fields.{spellingOf}
 use Rattle.base_value.specs.declared.Value.the-variants as value
 use Rattle.base_value.specs.declared.Reading.the-variants.{Held}
 use Rattle.value_field.specs.spelling.Reading.{readingOf}
-use Rattle.card_laws.proofs.rewriting.Edge.{bytes, decimal}
+use Rattle.card_laws.specs.rewriting.Edges.{bytes, decimal}
 
 abbrev pub ambiguous : List ℕ
 ambiguous = bytes "0523010.250N"

@@ -35,7 +35,8 @@ pub record Leftmost (offence : ℕ → ℕ) (n d : ℕ) : Type 0 where
 
 -- a card offends with number n at column d
 pub data Offends (s : List ℕ) (form : Form) (n d : ℕ) : Type 0 where
-  size : (length s ≡ 80 → ⊥) → n ≡ 2 → d ≡ 0 → Offends s form n d
+  empty : length s ≡ 0 → n ≡ 1 → d ≡ 0 → Offends s form n d
+  size : (length s ≡ 0 → ⊥) → (length s ≡ 80 → ⊥) → n ≡ 2 → d ≡ 0 → Offends s form n d
   byte : BadByte s d → n ≡ 4 → Offends s form n d
   unknown : Sound s → codeOf (take 5 s) ≡ Unknown → n ≡ 5 → d ≡ 1 → Offends s form n d
   column : Sound s → (k : ℕ) → codeOf (take 5 s) ≡ Read k → Leftmost (offenceAt k form s) n d → Offends s form n d

@@ -104,6 +104,7 @@ columnsFrom form s (suc m) c = columnRows form s c ++ columnsFrom form s m (suc 
 -- judging a card by itself: the columns from 6 to 80
 unfoldable pub judgeRows : List ℕ → Form → List Row
 judgeRows s form =
+    row 1 0 0 (eqb (length s) 0) ∷
     row 2 0 0 (not (eqb (length s) 80)) ∷
     row 4 1 (firstBad s + 1) (not (printable s)) ∷
     row 5 1 1 (isUnknown (codeOf (take 5 s))) ∷

@@ -1,7 +1,7 @@
 -- Each answer as numbers: one that says it, and the three that go with it.
 use Prim.Native.Nat.{ℕ}
-use mathlib.Core.Bool.{Bool, true, false, cond}
-use lib.Dec.{eqb}
+use mathlib.Core.Bool.{Bool, true, false, cond, _&&_, not}
+use lib.Dec.{eqb, ltb}
 use lib.IntN.{ℤ, pos, negsuc}
 use Rattle.base_digits.specs.digits.Figures.{capped}
 use Rattle.base_digits.specs.signs.Signs.{signedOf}
@@ -51,7 +51,7 @@ unfoldable pub fieldReply : FieldRead → Reply
 fieldReply (read.Is v) = valueReply v
 fieldReply (read.Refused r) = refusedReply r
 
--- a text: 5 and its columns; 0 where there is none
+-- a text: 5 and its columns; 0 where the field has none; or the field's refusal
 unfoldable pub textReply : FieldRead → Reply
 textReply (read.Is Absent) = doneReply
 textReply (read.Is (Whole z)) = doneReply
@@ -59,16 +59,16 @@ textReply (read.Is (Decimal d)) = doneReply
 textReply (read.Is (Angle z)) = doneReply
 textReply (read.Is (Date d)) = doneReply
 textReply (read.Is (Text c)) = valueReply (Text c)
-textReply (read.Refused r) = doneReply
+textReply (read.Refused r) = refusedReply r
 
--- an answer that says 5, which only one with a text does
-abbrev pub isText : ℤ → Bool
-isText (pos n) = eqb n 5
-isText (negsuc n) = false
+-- an answer that says the kind of a value which is there and no text
+abbrev pub saysOther : ℤ → Bool
+saysOther (pos n) = ltb 0 n && not (eqb n 5)
+saysOther (negsuc n) = false
 
--- a text by the answer to its field: all but a text is none
+-- a text by the answer to its field: a value of another kind is none
 unfoldable pub textAlone : Reply → Reply
-textAlone r = cond (isText (r .said)) r doneReply
+textAlone r = cond (saysOther (r .said)) doneReply r
 
 -- an entry: 0, or its refusal
 unfoldable pub enteredReply : Entered → Reply

@@ -1,8 +1,9 @@
 -- One layout more is noted, one card more is counted.
-use Prim.Native.Nat.{ℕ, _+_, _≤_, _<_}
+use Prim.Native.Nat.{ℕ, zero, suc, _+_, _≤_, _<_}
 use native.Mathlib.Decide.{ℕ-discrete}
+use native.Mathlib.Numerals.{add-one}
 use native.Mathlib.Omega.{arith}
-use mathlib.Core.Path.{_≡_, refl, sym, ap, subst, _∙_}
+use mathlib.Core.Path.{_≡_, refl, sym, ap, _∙_}
 use mathlib.Core.List.{List}
 use lib.Dec.{eqb}
 use lib.ListN.{length, getD, set, length-set}
@@ -10,27 +11,39 @@ use lib.Seq.{getD-set-same, getD-set-other}
 use Rattle.base_lists.specs.Count.{bit, count}
 use Rattle.base_lists.proofs.Counting.{count-le, count-more}
 use Rattle.header_check.specs.forms.Cards.{cardAt, layoutOf}
-use Rattle.tie_check.specs.packed.Noted.{Noted, pointsTo}
+use Rattle.tie_check.specs.packed.Noted.{Noted, notedTo, pointsTo}
 
-pub none-noted : (h layouts : List ℕ) → length layouts ≡ 800 → Noted h 0 layouts
-none-noted h layouts e = record { room = e; layouts-are = λ c l. absurd (omega arith) }
+module _ (h old : List ℕ) where
+  pub length-noted : (n : ℕ) → length (notedTo h old n) ≡ length old
+  unfolding notedTo
+  length-noted zero = refl
+  length-noted (suc n) = length-set (notedTo h old n) n (layoutOf (cardAt h n)) ∙ length-noted n
 
-pub noted-more : (h layouts : List ℕ) (c k : ℕ) → c < 800 → Noted h c layouts → k ≡ layoutOf (cardAt h c)
-    → Noted h (c + 1) (set layouts c k)
-noted-more h layouts c k low n e = record {
-  room = length-set layouts c k ∙ n .room;
-  layouts-are = λ i l. elim (ℕ-discrete c i) [
-    | yes q ↦
-        ap (λ j. getD (set layouts c k) j 0) (sym q)
-        ∙ getD-set-same layouts c k 0 (omega (arith, n .room))
-        ∙ e
-        ∙ ap (λ j. layoutOf (cardAt h j)) q
-    | no q ↦ getD-set-other layouts c i k 0 (λ r. q (sym r)) ∙ n .layouts-are i (omega (arith, l, q))
-  ];
-}
+  pub none-noted : old ≡ notedTo h old 0
+  unfolding notedTo
+  none-noted = refl
 
-pub all-noted : (h layouts : List ℕ) (c n : ℕ) → c ≡ n → Noted h c layouts → Noted h n layouts
-all-noted h layouts c n e k = subst (λ (j : ℕ). Noted h j layouts) e k
+  pub noted-more : (layouts : List ℕ) (c k : ℕ) → layouts ≡ notedTo h old c → k ≡ layoutOf (cardAt h c)
+      → set layouts c k ≡ notedTo h old (c + 1)
+  unfolding notedTo
+  noted-more layouts c k e q = rw (add-one, e, q)
+
+  -- so the array has the layouts of all cards
+  pub all-noted : (layouts : List ℕ) (n : ℕ) → layouts ≡ notedTo h old n → length old ≡ 800 → n ≤ 800 → Noted h n layouts
+  unfolding notedTo
+  all-noted layouts n e room few = rw e (record { room = length-noted n ∙ room; layouts-are = λ c l. at n few c l })
+    where
+      at : (n : ℕ) → n ≤ 800 → (c : ℕ) → c < n → getD (notedTo h old n) c 0 ≡ layoutOf (cardAt h c)
+      at zero few c l = absurd (omega arith)
+      at (suc n) few c l = elim (ℕ-discrete n c) [
+        | yes q ↦
+            ap (λ j. getD (set (notedTo h old n) n (layoutOf (cardAt h n))) j 0) (sym q)
+            ∙ getD-set-same (notedTo h old n) n (layoutOf (cardAt h n)) 0 (omega (arith, length-noted n, room, few))
+            ∙ ap (λ j. layoutOf (cardAt h j)) q
+        | no q ↦
+            getD-set-other (notedTo h old n) n c (layoutOf (cardAt h n)) 0 (λ r. q (sym r))
+            ∙ at n (omega (arith, few)) c (omega (arith, l, q))
+      ]
 
 -- the cards with points
 pub no-points : (h : List ℕ) → 0 ≡ pointsTo h 0

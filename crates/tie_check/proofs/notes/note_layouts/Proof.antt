@@ -7,19 +7,19 @@ use native.Mathlib.Omega.{arith}
 use borrow.Author.Needs.{needs}
 use Rattle.header_check.specs.forms.Cards.{cardsIn, layoutOf}
 use Rattle.header_check.proofs.forms.Steps.{card-part, card-ends}
-use Rattle.tie_check.specs.packed.Noted.{Noted}
-use Rattle.tie_check.proofs.notes.Noting.{none-noted, noted-more, all-noted}
+use Rattle.tie_check.specs.packed.Noted.{notedTo}
+use Rattle.tie_check.proofs.notes.Noting.{none-noted, noted-more, length-noted}
 use Rattle.tie_check.proofs.notes.note_layouts.Statement.{statement}
 use Rattle.tie_check.proofs.notes.note_layouts.Tie as tie
 
 abbrev Inv-loop : tie.InvT-loop
-Inv-loop header layouts₀ cards place₀ layouts place = (place ≤ length header / 80) × Noted header place layouts
+Inv-loop header layouts₀ cards place₀ layouts place = (place ≤ length header / 80) × (layouts ≡ notedTo header layouts₀ place)
 
 abbrev μ-loop : tie.MeasureT-loop
 μ-loop header layouts₀ cards place₀ layouts place = length header / 80 - place
 
 loop-holds : tie.Need-loop-holds Inv-loop μ-loop
-loop-holds c = (omega arith, none-noted _ _ (c .before .pre .1))
+loop-holds c = (omega arith, none-noted _ _)
 
 -- the card lies within the header
 within : (c : tie.In-loop Inv-loop μ-loop)
@@ -53,7 +53,11 @@ mul-layouts : tie.Need-mul-layouts Inv-loop μ-loop
 mul-layouts c = omega (arith, below (c .before .before))
 
 element-write-layouts : tie.Need-element-write-layouts Inv-loop μ-loop
-element-write-layouts c = omega (arith, below (c .before .before), c .before .before .before .loop .inv .1 .room)
+element-write-layouts c =
+    let b = c .before .before .before in
+    let a = b .before .before .args in
+    let n = ap length (b .loop .inv .1) ∙ length-noted (now (a .header)) (now (a .layouts)) (b .loop .place) in
+    omega (arith, below (c .before .before), n, b .before .before .pre .1)
 
 add-place : tie.Need-add-place Inv-loop μ-loop
 add-place c = search needs
@@ -67,7 +71,7 @@ loop-again c =
     let b = l .before .loop in
     let h = now (l .before .before .before .args .header) in
     let k = c .layout-of .ensures ∙ ap layoutOf (card-part h (b .place)) in
-    (omega arith, noted-more h _ (b .place) _ (below l) (b .inv .1) k)
+    (omega arith, noted-more h _ _ (b .place) _ (b .inv .1) k)
 
 returns : tie.Need-returns Inv-loop μ-loop
 unfolding cardsIn
@@ -75,7 +79,7 @@ returns c =
     let b = c .before .loop in
     let h = now (c .before .before .before .args .header) in
     let q : b .place ≡ length h / 80 = omega (arith, b .inv .0) in
-    all-noted h _ _ _ q (b .inv .1)
+    b .inv .1 ∙ ap (notedTo h _) q
 
 pub note-layouts-spec : {M : Type 1} → statement M
 note-layouts-spec =
