@@ -1,31 +1,23 @@
 -- An accepted header has few enough cards, and they are printable.
 use Prim.Native.Nat.{ℕ, _≤_, _<_}
-use native.Mathlib.Nat.{mul-comm}
 use native.Mathlib.Omega.{arith}
 use mathlib.Core.Path.{_≡_}
 use mathlib.Core.Bool.{true}
 use mathlib.Core.List.{List}
-use lib.ListN.{length}
-use Rattle.base_lists.proofs.Parting.{part-length}
 use Rattle.value_text.specs.text.Texts.{printable}
 use Rattle.header_check.specs.forms.Cards.{cardAt, cardsIn}
-use Rattle.header_check.proofs.forms.Steps.{card-ends}
 use Rattle.card_field.proofs.seeking.Bytes.{bad-none}
 use Rattle.header_check.specs.declared.Checked.the-variants.{Accepted}
 use Rattle.header_check.specs.Refusing.{refusalOf}
-use Rattle.header_laws.proofs.Rows.{fine-exactly}
+use Rattle.header_laws.proofs.Rows.{eighty, fine-exactly}
 use Rattle.header_laws.proofs.Exactly.{accepted-exactly}
 
 module _ (h : List ℕ) (accepted : refusalOf h ≡ Accepted) where
   pub few-cards : cardsIn h ≤ 800
   few-cards = accepted-exactly h .0 accepted .0 .few
 
-  eighty : (c : ℕ) → c < cardsIn h → length (cardAt h c) ≡ 80
-  unfolding cardAt cardsIn
-  eighty c l = part-length 80 h c (omega (arith, card-ends h c l, mul-comm c 80))
-
   pub printed : (c : ℕ) → c < cardsIn h → printable (cardAt h c) ≡ true
   printed c l =
       let fine = accepted-exactly h .0 accepted .1 c (omega arith) in
       let clean = fine-exactly h c l .0 fine in
-      bad-none (cardAt h c) (omega (arith, clean .printable, eighty c l))
+      bad-none (cardAt h c) (omega (arith, clean .printable, eighty h c l))

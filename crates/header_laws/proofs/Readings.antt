@@ -1,6 +1,5 @@
 -- In an accepted header every field of a card that is read answers its reading with a value; coordinates want their form for it.
 use Prim.Native.Nat.{ℕ, zero, suc, _+_, _-_, _≤_, _<_}
-use native.Mathlib.Nat.{mul-comm}
 use native.Mathlib.Omega.{arith}
 use mathlib.Core.Path.{_≡_, refl, sym, ap, subst, _∙_}
 use mathlib.Core.Bool.{Bool, true, false, cond, _&&_}
@@ -27,7 +26,6 @@ use Rattle.format_layout.specs.Layouts.{fieldsOf, fieldOf, labelOf, noField}
 use Rattle.format_layout.specs.ranges.Ranges.{inRange}
 use Rattle.format_layout.proofs.Columns.{after-label, ends-before}
 use Rattle.format_layout.proofs.Numbers.{numbered, found-lies}
-use Rattle.base_lists.proofs.Parting.{part-length}
 use Rattle.card_field.specs.declared.seeking.Sought.the-variants as sought
 use Rattle.card_field.specs.declared.judging.Judged.the-variants as judged
 use Rattle.card_field.specs.declared.FieldRead.the-variants as read
@@ -42,8 +40,7 @@ use Rattle.header_check.specs.forms.Cards.{cardAt, cardsIn, layoutOf, unread, n
 use Rattle.header_check.specs.forms.Forms.{formOf}
 use Rattle.header_check.specs.Opening.{standsAt}
 use Rattle.header_check.specs.Refusing.{refusalOf}
-use Rattle.header_check.proofs.forms.Steps.{card-ends}
-use Rattle.header_laws.proofs.Rows.{Clean, fine-exactly}
+use Rattle.header_laws.proofs.Rows.{Clean, eighty, fine-exactly}
 use Rattle.header_laws.proofs.Exactly.{accepted-exactly}
 
 -- the offence of a field stands at its first column: no field before it reaches there
@@ -112,10 +109,6 @@ coded-by code.Passed k e l = absurd (omega arith)
 coded-by code.Unknown k e l = absurd (omega arith)
 
 module _ (h : List ℕ) (a : refusalOf h ≡ Accepted) (c : ℕ) (l : c < cardsIn h) where
-  eighty : length (cardAt h c) ≡ 80
-  unfolding cardAt cardsIn
-  eighty = part-length 80 h c (omega (arith, card-ends h c l, mul-comm c 80))
-
   clean : Clean (cardAt h c) (formOf h (cardAt h c)) (standsAt h c)
   clean = fine-exactly h c l .0 (accepted-exactly h .0 a .1 c (omega arith))
 
@@ -128,7 +121,7 @@ module _ (h : List ℕ) (a : refusalOf h ≡ Accepted) (c : ℕ) (l : c < cardsI
     pub field-found : soughtOf (cardAt h c) n 0 ≡ sought.Is k f
     unfolding coded
     field-found =
-        sought-coded (cardAt h c) n 0 (λ z. omega (arith, eighty, z)) eighty (firstBad (cardAt h c)) refl (clean .printable)
+        sought-coded (cardAt h c) n 0 (λ z. omega (arith, eighty h c l, z)) (eighty h c l) (firstBad (cardAt h c)) refl (clean .printable)
         ∙ ap (λ x. coded x n 0) code-is
         ∙ form-good k 0 (fieldOf k n) f e (omega arith)
 

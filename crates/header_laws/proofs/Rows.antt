@@ -174,7 +174,7 @@ module _ (h : List ℕ) (c : ℕ) (l : c < cardsIn h) where
   unfolding verdictAt
   at-card = rw (lt-ltb c (cardsIn h) l)
 
-  eighty : length (cardAt h c) ≡ 80
+  pub eighty : length (cardAt h c) ≡ 80
   unfolding cardAt cardsIn
   eighty = part-length 80 h c (omega (arith, card-ends h c l, mul-comm c 80))
 

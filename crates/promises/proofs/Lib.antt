@@ -1,0 +1,4 @@
+pub mod Header
+pub mod Cards
+pub mod Lists
+pub mod Promises

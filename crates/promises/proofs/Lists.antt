@@ -1,0 +1,95 @@
+-- The laws of the list, said of what the check answers and leaves.
+use Prim.Native.Nat.{ℕ, _+_, _*_, _-_, _/_, _≤_, _<_, min}
+use native.Mathlib.Decide.{decLt}
+use native.Mathlib.Omega.{arith}
+use mathlib.Core.Path.{_≡_, refl, sym, ap, ap₂, _∙_}
+use mathlib.Core.Bool.{true}
+use mathlib.Core.Logic.{_↔_}
+use mathlib.Core.List.{List, [], _∷_, List·Memᴰ}
+use lib.ListN.{length, getD, length-map}
+use borrow.Author.Tests.{le-leb}
+use Rattle.base_refusal.specs.declared.Refusal.{Refusal}
+use Rattle.base_lists.specs.Parts.{part}
+use Rattle.base_lists.specs.Laid.{laid}
+use Rattle.base_lists.proofs.Laying.{length-laid}
+use Rattle.format_layout.specs.Names.{H00X9}
+use Rattle.header_check.specs.declared.Checked.{Checked}
+use Rattle.header_check.specs.declared.Checked.the-variants.{Accepted, Refused}
+use Rattle.header_check.specs.forms.Cards.{cardAt, cardsIn, layoutOf}
+use Rattle.header_check.specs.Refusing.{refusalOf}
+use Rattle.header_laws.proofs.Moved.{accepted-opens}
+use Rattle.tie_rules.specs.Faults.{broken, faults, entries, entryOf}
+use Rattle.tie_check.specs.declared.Ties.the-variants.{Found}
+use Rattle.tie_check.specs.Answer.{answerFor, listFor}
+use Rattle.tie_laws.proofs.Complete as complete
+use Rattle.tie_laws.proofs.Rearranged.{rearranged-alike}
+use Rattle.promises.specs.Words.{listOf, opens, Moved}
+
+pub refused-check : (h l : List ℕ) (r : Refusal) → refusalOf h ≡ Refused r → listFor (refusalOf h) l (entries (faults h)) ≡ l
+unfolding listFor
+refused-check h l r e = rw e
+
+pub number : (h : List ℕ) → refusalOf h ≡ Accepted → answerFor (refusalOf h) (length (faults h)) ≡ Found (length (listOf h))
+unfolding answerFor
+number h a = rw (a, length-map (faults h) entryOf)
+
+pub nothing-else : (h e : List ℕ) → List·Memᴰ e (listOf h)
+    → (c : ℕ) × (column : ℕ) × (kind : ℕ) × (c < cardsIn h) × (broken h c column kind ≡ true) × (e ≡ (c + 1) ∷ column ∷ kind ∷ [])
+nothing-else h e m =
+    let r = complete.only-faults h e m in
+    let f = r .4 in
+    let q : r .0 - 1 + 1 ≡ r .0 = omega (arith, f .first-card) in
+    (r .0 - 1, r .1, r .2, omega (arith, f .first-card, f .last-card), f .is-broken, r .3 ∙ ap (λ n. n ∷ r .1 ∷ r .2 ∷ []) (sym q))
+
+module _ (h l : List ℕ) where
+  module _ (a : refusalOf h ≡ Accepted) where
+    is-laid : listFor (refusalOf h) l (entries (faults h)) ≡ laid 3 l (entries (faults h))
+    unfolding listFor
+    is-laid = rw a
+
+    pub first-that-fit : (i : ℕ) → i < min (length (listOf h)) (length l / 3)
+        → part 3 (listFor (refusalOf h) l (entries (faults h))) i ≡ getD (listOf h) i []
+    first-that-fit i b = rw is-laid (complete.first-entries h l i b)
+
+    pub rest-stays : (i : ℕ) → 3 * min (length (listOf h)) (length l / 3) ≤ i
+        → getD (listFor (refusalOf h) l (entries (faults h))) i 0 ≡ getD l i 0
+    rest-stays i b = rw is-laid (complete.rest-unchanged h l i b)
+
+  pub as-long : length (listFor (refusalOf h) l (entries (faults h))) ≡ length l
+  unfolding listFor
+  as-long = go (refusalOf h)
+    where
+      go : (c : Checked) → length (listFor c l (entries (faults h))) ≡ length l
+      go Accepted = length-laid 3 l (entries (faults h))
+      go (Refused r) = refl
+
+pub moved : (h h′ : List ℕ) (a : refusalOf h ≡ Accepted) (m : Moved h h′)
+    → (refusalOf h′ ≡ Accepted)
+    × (answerFor (refusalOf h′) (length (faults h′)) ≡ answerFor (refusalOf h) (length (faults h)))
+    × ((c column kind : ℕ) → c < cardsIn h
+    → List·Memᴰ ((c + 1) ∷ column ∷ kind ∷ []) (listOf h) ↔ List·Memᴰ ((m .order .to c + 1) ∷ column ∷ kind ∷ []) (listOf h′))
+unfolding opens
+moved h h′ a m =
+    let r = rearranged-alike h h′ a (m .order) (m .same-length) (m .same-card) stays in
+    let same : length (faults h′) ≡ length (faults h) =
+    sym (length-map (faults h′) entryOf) ∙ r .1 .as-many ∙ length-map (faults h) entryOf in (
+      r .0,
+      ap₂ answerFor (r .0 ∙ sym a) same,
+      λ c column kind l.
+          let x = complete.listed-exactly h (c + 1) column kind in
+          let y = complete.listed-exactly h′ (m .order .to c + 1) column kind in
+          let z = r .1 .on-cards c column kind l in
+          (λ e. y .1 (z .0 (x .0 e)), λ e. x .1 (z .1 (y .0 e))),
+    )
+  where
+    -- the cards before the end of the block are opening cards
+    stays : (c : ℕ) → c < accepted-opens h a .end → m .order .to c ≡ c
+    stays c l =
+        let o = accepted-opens h a in
+        m .block-stays c (omega (arith, l, o .inside)) (le-leb (layoutOf (cardAt h c)) H00X9 (elim (decLt c 8) [
+          | yes i ↦ omega (arith, o .eight c i)
+          | no i ↦ elim (decLt c (o .lines)) [
+            | yes j ↦ omega (arith, o .line c (omega arith) j)
+            | no j ↦ omega (arith, o .waypoint c (omega arith) l)
+          ]
+        ]))

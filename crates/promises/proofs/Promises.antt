@@ -1,0 +1,216 @@
+-- What is promised of the product, in the order of its three demands: total, exact, complete. Each promise is a law about what the
+-- functions answer and leave, for every input; the contracts in src/ say that they answer and leave just this. A reader has to
+-- believe the definitions that are named here, each in the specs/ of its crate, and nothing else.
+use Prim.Native.Nat.{ℕ, _+_, _*_, _/_, _≤_, _<_, min}
+use mathlib.Core.Path.{_≡_}
+use mathlib.Core.Bool.{true, false}
+use mathlib.Core.Logic.{_↔_}
+use mathlib.Core.List.{List, [], _∷_, _++_, map, List·Memᴰ}
+use lib.ListN.{length, getD, replicate}
+use Rattle.base_refusal.specs.declared.Refusal.{Refusal}
+use Rattle.base_lists.specs.Parts.{part}
+use Rattle.base_value.specs.declared.Value.{Value}
+use Rattle.base_value.specs.declared.Value.the-variants.{Absent, Text}
+use Rattle.base_value.specs.declared.Columns.{Columns}
+use Rattle.base_value.specs.declared.Reading.the-variants.{Held}
+use Rattle.value_field.specs.declared.spelling.Spelling.{Spelling}
+use Rattle.value_field.specs.spelling.Reading.{readingOf}
+use Rattle.format_layout.specs.declared.Field.{Field}
+use Rattle.format_layout.specs.declared.Form.{Form}
+use Rattle.card_field.specs.declared.seeking.Sought.the-variants as sought
+use Rattle.card_field.specs.seeking.Card.{soughtOf}
+use Rattle.card_field.specs.declared.FieldRead.the-variants as read
+use Rattle.card_field.specs.declared.judging.Judged.the-variants as judged
+use Rattle.card_field.specs.Reading.{fieldReading, fieldText, holdsText}
+use Rattle.card_put.specs.declared.Entered.the-variants as entered
+use Rattle.card_put.specs.declared.opening.Opened.the-variants as opened
+use Rattle.card_put.specs.Putting.{puttingOf, puttingTextOf}
+use Rattle.card_put.specs.opening.Opening.{openedOf, openedCard}
+use Rattle.card_check.specs.declared.Verdict.the-variants.{Fine, Offence}
+use Rattle.card_check.specs.Judging.{verdictOf}
+use Rattle.card_laws.specs.exactly.Rows.{Exactly}
+use Rattle.card_laws.specs.exactly.Tables.{readRows, putRows, putTextRows, openRows, judgeRows, cardOf}
+use Rattle.card_laws.specs.rewriting.Edges.{edges, found}
+use Rattle.header_check.specs.declared.Checked.the-variants.{Accepted, Refused}
+use Rattle.header_check.specs.forms.Cards.{cardAt, cardsIn, layoutOf, unread}
+use Rattle.header_check.specs.Refusing.{refusalOf}
+use Rattle.tie_rules.specs.Ties.{Role, lineFor}
+use Rattle.tie_rules.specs.Keys.{keyAt}
+use Rattle.tie_rules.specs.Readings.{keyRead}
+use Rattle.tie_rules.specs.Faults.{broken, faults, entries}
+use Rattle.tie_check.specs.declared.Ties.the-variants.{Found}
+use Rattle.tie_check.specs.Answer.{answerFor, listFor}
+use Rattle.crew_answer.specs.Answer.{answerTo}
+use Rattle.crew_answer.specs.lines.Text.{bytes, newline}
+use Rattle.promises.specs.Header.{headerRows}
+use Rattle.promises.specs.Words.{putAnswer, putCard, textAnswer, textCard, AlikeOutside, listOf, Before, Moved}
+use Rattle.promises.proofs.Header as header
+use Rattle.promises.proofs.Cards as cards
+use Rattle.promises.proofs.Lists as lists
+use Rattle.card_laws.proofs.exactly.Fields as fields
+use Rattle.card_laws.proofs.exactly.Entries as puts
+use Rattle.card_laws.proofs.exactly.Cards as whole-cards
+use Rattle.card_laws.proofs.rewriting.Edge as edge-cases
+use Rattle.tie_laws.proofs.Readings as readings
+use Rattle.tie_laws.proofs.Complete as complete
+use Rattle.tie_laws.proofs.ExampleCards.{example}
+use Rattle.crew_answer.proofs.Example as worked-example
+
+-- TOTAL. An operation has a table of refusals in the paper's order. It is refused exactly when a row of its table holds and none before
+-- it does, with that row's number, card and column; it is done exactly when no row holds.
+
+-- reading a field
+pub reading : (s : List ℕ) (n form : ℕ)
+    → Exactly (readRows s n form) (λ r. fieldReading s n form ≡ read.Refused r) ((v : Value) × (fieldReading s n form ≡ read.Is v))
+reading = fields.reading-exactly
+
+-- putting a value, and a text
+pub putting : (s : List ℕ) (n form : ℕ) (v : Value)
+    → Exactly (putRows s n form v) (λ r. putAnswer s n form v ≡ entered.Refused r) (putAnswer s n form v ≡ entered.Done)
+putting = puts.put-exactly
+
+pub putting-text : (s : List ℕ) (n form : ℕ) (t : List ℕ)
+    → Exactly (putTextRows s n form t) (λ r. textAnswer s n form t ≡ entered.Refused r) (textAnswer s n form t ≡ entered.Done)
+putting-text = puts.put-text-exactly
+
+-- opening a card of so many bytes with a code
+pub opening : (code : List ℕ) (size : ℕ)
+    → Exactly (openRows code size) (λ r. openedOf code size ≡ opened.Refused r) (openedOf code size ≡ opened.Done)
+opening = whole-cards.opening-exactly
+
+-- judging a card by itself, which names no card
+pub judging : (s : List ℕ) (form : Form)
+    → Exactly (judgeRows s form)
+    (λ r. (verdictOf s form ≡ Offence (r .number) (r .column)) × (r .card ≡ cardOf (r .column)))
+    (verdictOf s form ≡ Fine)
+judging = whole-cards.verdict-exactly
+
+-- checking a header, and whatever is asked of one
+pub checking : (h : List ℕ) → Exactly (headerRows h) (λ r. refusalOf h ≡ Refused r) (refusalOf h ≡ Accepted)
+checking = header.header-exactly
+
+-- What is refused leaves everything as it was: the 80 columns, or however many were lent, and the list.
+
+pub refused-put : (s : List ℕ) (n form : ℕ) (v : Value) (r : Refusal)
+    → putAnswer s n form v ≡ entered.Refused r → putCard s n form v ≡ s
+refused-put s n form v r = cards.refused-stays (puttingOf s n form v) s r
+
+pub refused-text : (s : List ℕ) (n form : ℕ) (t : List ℕ) (r : Refusal)
+    → textAnswer s n form t ≡ entered.Refused r → textCard s n form t ≡ s
+refused-text s n form t r = cards.refused-stays (puttingTextOf s n form t) s r
+
+pub refused-opening : (code s : List ℕ) (r : Refusal) → openedOf code (length s) ≡ opened.Refused r → openedCard code s ≡ s
+refused-opening = cards.refused-opening
+
+pub refused-check : (h l : List ℕ) (r : Refusal) → refusalOf h ≡ Refused r → listFor (refusalOf h) l (entries (faults h)) ≡ l
+refused-check = lists.refused-check
+
+-- EXACT. What is read is what stands there; blank is never zero.
+
+pub blank : (k : Spelling) (s : List ℕ) → (readingOf k s ≡ Held Absent) ↔ (s ≡ replicate (length s) 32)
+blank = cards.blank-exactly
+
+-- the paper's values at the edge: what each says, with its number where it is refused, and what stands there once it is rewritten
+pub at-the-edge : map found edges ≡ edges
+at-the-edge = edge-cases.edge
+
+-- What is agreed to be written reads back the same.
+
+pub value-back : (s : List ℕ) (n form : ℕ) (v : Value) → putAnswer s n form v ≡ entered.Done
+    → fieldReading (putCard s n form v) n form ≡ read.Is v
+value-back = cards.value-back
+
+pub text-back : (s : List ℕ) (n form : ℕ) (t : List ℕ) → textAnswer s n form t ≡ entered.Done
+    → fieldText (textCard s n form t) n form ≡ t
+text-back = cards.text-back
+
+-- What was read can be put again: the card then says the same, and putting it once more changes nothing; a text leaves the card as it was.
+
+pub read-again : (s : List ℕ) (n form : ℕ) (v : Value) → fieldReading s n form ≡ read.Is v → holdsText (judged.Is v) ≡ false
+    → (putAnswer s n form v ≡ entered.Done)
+    × (fieldReading (putCard s n form v) n form ≡ read.Is v)
+    × (putCard (putCard s n form v) n form v ≡ putCard s n form v)
+read-again = cards.read-again
+
+pub text-again : (s : List ℕ) (n form : ℕ) (c : Columns) → fieldReading s n form ≡ read.Is (Text c)
+    → (textAnswer s n form (fieldText s n form) ≡ entered.Done) × (textCard s n form (fieldText s n form) ≡ s)
+text-again = cards.text-again
+
+-- A value has one spelling: two cards that differ only in how a field is spelled become one when its value is put. A text has no second
+-- one.
+
+pub one-spelling : (s t : List ℕ) (n form k : ℕ) (f : Field) → soughtOf s n form ≡ sought.Is k f → AlikeOutside f s t
+    → (v : Value) → holdsText (judged.Is v) ≡ false → fieldReading s n form ≡ read.Is v → fieldReading t n form ≡ read.Is v
+    → putCard t n form v ≡ putCard s n form v
+one-spelling = cards.one-spelling
+
+pub one-text : (s t : List ℕ) (n form k : ℕ) (f : Field) → soughtOf s n form ≡ sought.Is k f → AlikeOutside f s t
+    → (c d : Columns) → fieldReading s n form ≡ read.Is (Text c) → fieldReading t n form ≡ read.Is (Text d)
+    → fieldText s n form ≡ fieldText t n form → s ≡ t
+one-text = cards.one-text
+
+-- A put changes no column outside its field.
+
+pub outside : (s : List ℕ) (n form k : ℕ) (f : Field) → soughtOf s n form ≡ sought.Is k f
+    → (v : Value) → AlikeOutside f s (putCard s n form v)
+outside = cards.outside
+
+pub text-outside : (s : List ℕ) (n form k : ℕ) (f : Field) → soughtOf s n form ≡ sought.Is k f
+    → (t : List ℕ) → AlikeOutside f s (textCard s n form t)
+text-outside = cards.text-outside
+
+-- COMPLETE. The check of an accepted header answers the number of all broken ties; the list is all of them and nothing else, ordered by
+-- card, column, kind, nothing twice. With less room, the first that fit; what lies behind stays as it was.
+
+pub number : (h : List ℕ) → refusalOf h ≡ Accepted → answerFor (refusalOf h) (length (faults h)) ≡ Found (length (listOf h))
+number = lists.number
+
+pub listed : (h : List ℕ) (c column kind : ℕ) → c < cardsIn h
+    → List·Memᴰ ((c + 1) ∷ column ∷ kind ∷ []) (listOf h) ↔ (broken h c column kind ≡ true)
+listed = complete.broken-listed
+
+pub nothing-else : (h e : List ℕ) → List·Memᴰ e (listOf h)
+    → (c : ℕ) × (column : ℕ) × (kind : ℕ) × (c < cardsIn h) × (broken h c column kind ≡ true) × (e ≡ (c + 1) ∷ column ∷ kind ∷ [])
+nothing-else = lists.nothing-else
+
+pub ordered : (h : List ℕ) (i j : ℕ) → i < j → j < length (listOf h) → Before (getD (listOf h) i []) (getD (listOf h) j [])
+ordered = complete.in-order
+
+pub once : (h : List ℕ) (i j : ℕ) → i < length (listOf h) → j < length (listOf h) → getD (listOf h) i [] ≡ getD (listOf h) j [] → i ≡ j
+once = complete.once
+
+-- l is lent; entries of three numbers each
+pub first-that-fit : (h l : List ℕ) → refusalOf h ≡ Accepted → (i : ℕ) → i < min (length (listOf h)) (length l / 3)
+    → part 3 (listFor (refusalOf h) l (entries (faults h))) i ≡ getD (listOf h) i []
+first-that-fit = lists.first-that-fit
+
+pub rest-stays : (h l : List ℕ) → refusalOf h ≡ Accepted → (i : ℕ) → 3 * min (length (listOf h)) (length l / 3) ≤ i
+    → getD (listFor (refusalOf h) l (entries (faults h))) i 0 ≡ getD l i 0
+rest-stays = lists.rest-stays
+
+pub as-long : (h l : List ℕ) → length (listFor (refusalOf h) l (entries (faults h))) ≡ length l
+as-long = lists.as-long
+
+-- What is tied is what is read: in an accepted header a key is the answer to reading its field.
+
+pub keys-are-read : (h : List ℕ) → refusalOf h ≡ Accepted → (c : ℕ) → c < cardsIn h → layoutOf (cardAt h c) < unread
+    → (r : Role) (column : ℕ)
+    → keyAt r (cardAt h c) column ≡ keyRead (layoutOf (cardAt h c)) (lineFor r (layoutOf (cardAt h c)) column .source) (cardAt h c)
+keys-are-read = readings.key-is
+
+-- Cards behind the opening block may change places: the header is accepted, the check answers the same number, and an entry stands in
+-- one list exactly if the entry with its card's new number stands in the other.
+
+pub moved : (h h′ : List ℕ) → refusalOf h ≡ Accepted → (m : Moved h h′)
+    → (refusalOf h′ ≡ Accepted)
+    × (answerFor (refusalOf h′) (length (faults h′)) ≡ answerFor (refusalOf h) (length (faults h)))
+    × ((c column kind : ℕ) → c < cardsIn h
+    → List·Memᴰ ((c + 1) ∷ column ∷ kind ∷ []) (listOf h) ↔ List·Memᴰ ((m .order .to c + 1) ∷ column ∷ kind ∷ []) (listOf h′))
+moved = lists.moved
+
+-- The paper's example of 13 cards.
+
+pub worked : answerTo example
+    ≡ bytes "broken 4" ++ newline ++ bytes "11 11 2" ++ newline ++ bytes "11 36 2" ++ newline ++ bytes "12 7 4" ++ newline
+    ++ bytes "13 7 1" ++ newline
+worked = worked-example.five-lines
