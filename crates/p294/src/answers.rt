@@ -9,10 +9,9 @@ use card_field::FieldRead;
 use card_put::Entered;
 use card_put::opening::Opened;
 use tie_check::Ties;
-use tie_lookup::questions::Definitions;
-use tie_lookup::questions::Place;
+use tie_lookup::questions::Defined;
 ghost use mathlib.Core.Path.{_≡_};
-ghost use Rattle.p294.specs.answers.Replies.{plain, refusedReply, doneReply, valueReply, fieldReply, textAlone, enteredReply, openedReply, countReply, atReply, tiesReply, definitionsReply, placeReply};
+ghost use Rattle.p294.specs.answers.Replies.{plain, refusedReply, doneReply, valueReply, fieldReply, textAlone, enteredReply, openedReply, countReply, onlyReply, tiesReply, keyReply};
 
 // What the answer with a text says.
 const TEXT: i64 = 5;
@@ -182,12 +181,12 @@ fn counted(n: usize) -> Reply
     }
 }
 
-// A place in a header.
-fn at(card: usize, column: usize) -> Reply
-    ensures { λ r. ⌜ r ≡ atReply card column ⌝ }
+// The place of a key's only definition.
+fn only(card: usize, column: usize) -> Reply
+    ensures { λ r. ⌜ r ≡ onlyReply card column ⌝ }
 {
     Reply {
-        said: plain_of(card),
+        said: 1,
         first: plain_of(card),
         second: plain_of(column),
         third: 0,
@@ -204,22 +203,14 @@ pub fn of_ties(ties: Ties) -> Reply
     }
 }
 
-// How often a key is defined.
-pub fn of_definitions(definitions: Definitions) -> Reply
-    ensures { λ r. ⌜ r ≡ definitionsReply definitions ⌝ }
+// What a header says of a key.
+pub fn of_key(defined: Defined) -> Reply
+    ensures { λ r. ⌜ r ≡ keyReply defined ⌝ }
 {
-    match definitions {
-        Definitions::Number(n) => counted(n),
-        Definitions::Refused(r) => refused(r),
-    }
-}
-
-// The place of a key's only definition.
-pub fn of_place(place: Place) -> Reply
-    ensures { λ r. ⌜ r ≡ placeReply place ⌝ }
-{
-    match place {
-        Place::At(card, column) => at(card, column),
-        Place::Refused(r) => refused(r),
+    match defined {
+        Defined::None => done(),
+        Defined::Only(card, column) => only(card, column),
+        Defined::Several(n) => counted(n),
+        Defined::Refused(r) => refused(r),
     }
 }

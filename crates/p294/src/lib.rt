@@ -13,9 +13,9 @@ ghost use Rattle.card_put.specs.Putting.{answerOf, leftBy, puttingOf, puttingTe
 ghost use Rattle.header_check.specs.Refusing.{refusalOf};
 ghost use Rattle.tie_rules.specs.Faults.{faults, entries};
 ghost use Rattle.tie_check.specs.Answer.{answerFor, listFor};
-ghost use Rattle.tie_lookup.specs.questions.Questions.{definitionsFor, placeFor};
+ghost use Rattle.tie_lookup.specs.questions.Questions.{keyAnswer};
 ghost use Rattle.p294.specs.offered.Offers.{offeredOf, keyOf, keyTextOf};
-ghost use Rattle.p294.specs.answers.Replies.{fieldReply, textReply, enteredReply, openedReply, tiesReply, definitionsReply, placeReply};
+ghost use Rattle.p294.specs.answers.Replies.{fieldReply, textReply, enteredReply, openedReply, tiesReply, keyReply};
 ghost use Rattle.p294.specs.Given.{given};
 
 // How many numbers go with an answer.
@@ -146,9 +146,9 @@ pub extern "C" fn p294_check(header: &[u8], list: &mut [u32], numbers: &mut [i64
     give(numbers, reply)
 }
 
-// How often a key of a class, offered as its kind with two numbers or a text, is defined.
+// What a header says of a key of a class, offered as its kind with two numbers or a text.
 #[no_mangle]
-pub extern "C" fn p294_definitions(
+pub extern "C" fn p294_key(
     header: &[u8],
     class: u64,
     kind: usize,
@@ -158,34 +158,12 @@ pub extern "C" fn p294_definitions(
     numbers: &mut [i64],
 ) -> i64
     ensures said { λ r. ⌜ r
-        ≡ definitionsReply (definitionsFor (now (header .entry)) class (keyOf kind a b) (keyTextOf kind (now (text .entry)))) .said ⌝ }
+        ≡ keyReply (keyAnswer (now (header .entry)) class (keyOf kind a b) (keyTextOf kind (now (text .entry)))) .said ⌝ }
     ensures numbers { λ _. ⌜ now (numbers .exit)
-        ≡ given (now (numbers .entry)) (definitionsReply (definitionsFor (now (header .entry)) class (keyOf kind a b) (keyTextOf kind (now (text .entry))))) ⌝ }
+        ≡ given (now (numbers .entry)) (keyReply (keyAnswer (now (header .entry)) class (keyOf kind a b) (keyTextOf kind (now (text .entry))))) ⌝ }
 {
     let key = offered::key_of(kind, a, b);
     let bytes = offered::key_text(kind, text);
-    let reply = answers::of_definitions(tie_lookup::definitions_of(header, class, key, bytes));
-    give(numbers, reply)
-}
-
-// The card and the column of its only definition.
-#[no_mangle]
-pub extern "C" fn p294_place(
-    header: &[u8],
-    class: u64,
-    kind: usize,
-    a: i64,
-    b: i64,
-    text: &[u8],
-    numbers: &mut [i64],
-) -> i64
-    ensures said { λ r. ⌜ r
-        ≡ placeReply (placeFor (now (header .entry)) class (keyOf kind a b) (keyTextOf kind (now (text .entry)))) .said ⌝ }
-    ensures numbers { λ _. ⌜ now (numbers .exit)
-        ≡ given (now (numbers .entry)) (placeReply (placeFor (now (header .entry)) class (keyOf kind a b) (keyTextOf kind (now (text .entry))))) ⌝ }
-{
-    let wanted = offered::key_of(kind, a, b);
-    let spelled = offered::key_text(kind, text);
-    let reply = answers::of_place(tie_lookup::place_of(header, class, wanted, spelled));
+    let reply = answers::of_key(tie_lookup::find_key(header, class, key, bytes));
     give(numbers, reply)
 }

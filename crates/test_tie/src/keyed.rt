@@ -1,4 +1,4 @@
-// Questions about a key: how often it is defined, and where.
+// Questions about a key.
 use base_refusal::Refusal;
 use test_script::Count;
 use test_script::Signed;
@@ -7,9 +7,8 @@ use test_script::say;
 use tie_lookup::Node;
 use tie_lookup::Sensor;
 use tie_lookup::Streamer;
-use tie_lookup::questions::Definitions;
+use tie_lookup::questions::Defined;
 use tie_lookup::questions::Key;
-use tie_lookup::questions::Place;
 
 // Writes a refusal.
 pub fn say_refused(r: Refusal) {
@@ -19,26 +18,20 @@ pub fn say_refused(r: Refusal) {
     say::next(r.column as u64)
 }
 
-// Writes how often a key is defined.
-pub fn say_times(d: Definitions) {
+// Writes what a header says of a key.
+pub fn say_key(d: Defined) {
     match d {
-        Definitions::Number(k) => {
-            say::words(b"number");
-            say::next(k as u64)
-        }
-        Definitions::Refused(r) => say_refused(r),
-    }
-}
-
-// Writes the place of a definition.
-pub fn say_place(p: Place) {
-    match p {
-        Place::At(card, column) => {
-            say::words(b"at");
+        Defined::None => say::words(b"none"),
+        Defined::Only(card, column) => {
+            say::words(b"only");
             say::next(card as u64);
             say::next(column as u64)
         }
-        Place::Refused(r) => say_refused(r),
+        Defined::Several(k) => {
+            say::words(b"several");
+            say::next(k as u64)
+        }
+        Defined::Refused(r) => say_refused(r),
     }
 }
 
@@ -71,8 +64,8 @@ fn class_in(s: &[u8]) -> u64 {
     }
 }
 
-// CLASS KEY: how often it is defined.
-fn times_by(args: &[u8], header: &[u8]) -> Definitions {
+// CLASS KEY
+fn find_by(args: &[u8], header: &[u8]) -> Defined {
     let key = test_script::next(args);
     let mut columns = [b' '; 128];
     let size = headers::number_of(test_script::columns_in(
@@ -80,24 +73,7 @@ fn times_by(args: &[u8], header: &[u8]) -> Definitions {
         &mut columns,
     ));
     let class = class_in(test_script::word(args));
-    tie_lookup::definitions_of(
-        header,
-        class,
-        key_in(key),
-        test_script::front(&columns, size),
-    )
-}
-
-// CLASS KEY: where the only definition is.
-fn locate_by(args: &[u8], header: &[u8]) -> Place {
-    let key = test_script::next(args);
-    let mut columns = [b' '; 128];
-    let size = headers::number_of(test_script::columns_in(
-        test_script::from_bar(key),
-        &mut columns,
-    ));
-    let class = class_in(test_script::word(args));
-    tie_lookup::place_of(
+    tie_lookup::find_key(
         header,
         class,
         key_in(key),
@@ -106,23 +82,12 @@ fn locate_by(args: &[u8], header: &[u8]) -> Place {
 }
 
 // The same, or streamer, node or motion and a number.
-pub fn times(args: &[u8], header: &[u8]) -> Definitions {
+pub fn find(args: &[u8], header: &[u8]) -> Defined {
     let n = whole_in(test_script::next(args));
     match test_script::letter(args) {
-        b's' => tie_lookup::streamer_definitions(header, Streamer(n)),
-        b'n' => tie_lookup::node_definitions(header, Node(n)),
-        b'm' => tie_lookup::sensor_definitions(header, Sensor(n)),
-        _ => times_by(args, header),
-    }
-}
-
-// The same: where.
-pub fn locate(args: &[u8], header: &[u8]) -> Place {
-    let n = whole_in(test_script::next(args));
-    match test_script::letter(args) {
-        b's' => tie_lookup::streamer_place(header, Streamer(n)),
-        b'n' => tie_lookup::node_place(header, Node(n)),
-        b'm' => tie_lookup::sensor_place(header, Sensor(n)),
-        _ => locate_by(args, header),
+        b's' => tie_lookup::find_streamer(header, Streamer(n)),
+        b'n' => tie_lookup::find_node(header, Node(n)),
+        b'm' => tie_lookup::find_sensor(header, Sensor(n)),
+        _ => find_by(args, header),
     }
 }

@@ -47,8 +47,7 @@ fn answer(line: &[u8], header: &[u8], list: &mut [u32]) {
     match test_script::letter(line) {
         b'c' => check(args, header, list, true),
         b's' => check(args, header, list, false),
-        b't' => keyed::say_times(keyed::times(args, header)),
-        b'w' => keyed::say_place(keyed::locate(args, header)),
+        b'f' => keyed::say_key(keyed::find(args, header)),
         b'k' => say::number(header.len() as u64),
         b'a' => say::number(header.len() as u64),
         _ => say::unknown(),

@@ -1,4 +1,4 @@
-// Questions about a key, put to a header that was accepted: how often the key is defined, and where its only definition stands.
+// The question about a key, put to a header that was accepted.
 use crate::search;
 use base_refusal::NO_SUCH;
 use base_refusal::Refusal;
@@ -10,7 +10,7 @@ ghost use mathlib.Core.Path.{_≡_};
 ghost use Rattle.header_check.specs.declared.Checked.the-variants.{Accepted};
 ghost use Rattle.header_check.specs.Refusing.{refusalOf};
 ghost use Rattle.tie_rules.specs.packed.Numbers.{packed};
-ghost use Rattle.tie_lookup.specs.questions.Questions.{isClass, keyOffered, definitionsFor, placeFor};
+ghost use Rattle.tie_lookup.specs.questions.Questions.{isClass, keyOffered, keyAnswer};
 
 // A key that is offered; the bytes of a text are lent beside it.
 pub enum Key {
@@ -19,15 +19,11 @@ pub enum Key {
     Text,
 }
 
-// How often a key is defined, or the refusal.
-pub enum Definitions {
-    Number(usize),
-    Refused(Refusal),
-}
-
-// The card and the column of a key's only definition, both 0 where there is not exactly one; or the refusal.
-pub enum Place {
-    At(usize, usize),
+// What a header says of a key: no definition, the card and the column of the only one, or the number of several; or the refusal.
+pub enum Defined {
+    None,
+    Only(usize, usize),
+    Several(usize),
     Refused(Refusal),
 }
 
@@ -49,30 +45,22 @@ fn number_of(class: u64, key: Key, text: &[u8]) -> u64
     }
 }
 
-// How often a key of a class is defined, or 13 where there is no such class.
-pub fn counted(header: &[u8], class: u64, key: Key, text: &[u8]) -> Definitions
+// What an accepted header says of a key of a class, or 13 where there is no such class.
+pub fn answer(header: &[u8], class: u64, key: Key, text: &[u8]) -> Defined
     requires { ⌜ refusalOf (now header) ≡ Accepted ⌝ }
-    ensures { λ r. ⌜ r ≡ definitionsFor (now (header .entry)) class key (now (text .entry)) ⌝ }
+    ensures { λ r. ⌜ r ≡ keyAnswer (now (header .entry)) class key (now (text .entry)) ⌝ }
 {
     if !is_class(class) {
-        return Definitions::Refused(refuse(NO_SUCH, 0, 0));
+        return Defined::Refused(refuse(NO_SUCH, 0, 0));
     }
-    let number = number_of(class, key, text);
-    Definitions::Number(search::times_in(header, number))
-}
-
-// The place of its only definition, or 13.
-pub fn located(header: &[u8], class: u64, key: Key, text: &[u8]) -> Place
-    requires { ⌜ refusalOf (now header) ≡ Accepted ⌝ }
-    ensures { λ r. ⌜ r ≡ placeFor (now (header .entry)) class key (now (text .entry)) ⌝ }
-{
-    if !is_class(class) {
-        return Place::Refused(refuse(NO_SUCH, 0, 0));
+    let found = search::in_header(header, number_of(class, key, text));
+    let number = found.number;
+    if number == 0 {
+        return Defined::None;
     }
-    let number = number_of(class, key, text);
-    if search::times_in(header, number) != 1 {
-        return Place::At(0, 0);
+    if number == 1 {
+        let place = found.only - 1;
+        return Defined::Only(place / CARD + 1, place % CARD + 1);
     }
-    let place = search::first_in(header, number);
-    Place::At(place / CARD + 1, place % CARD + 1)
+    Defined::Several(number)
 }

@@ -16,10 +16,8 @@ use Rattle.card_put.specs.declared.opening.Opened.{Opened}
 use Rattle.card_put.specs.declared.opening.Opened.the-variants as opened
 use Rattle.tie_check.specs.declared.Ties.{Ties}
 use Rattle.tie_check.specs.declared.Ties.the-variants as ties
-use Rattle.tie_lookup.specs.declared.questions.Definitions.{Definitions}
-use Rattle.tie_lookup.specs.declared.questions.Definitions.the-variants as number
-use Rattle.tie_lookup.specs.declared.questions.Place.{Place}
-use Rattle.tie_lookup.specs.declared.questions.Place.the-variants as place
+use Rattle.tie_lookup.specs.declared.questions.Defined.{Defined}
+use Rattle.tie_lookup.specs.declared.questions.Defined.the-variants as defined
 use Rattle.p294.specs.declared.answers.Reply.{Reply}
 
 abbrev pub reply : ℤ → ℤ → ℤ → ℤ → Reply
@@ -84,21 +82,18 @@ openedReply (opened.Refused r) = refusedReply r
 unfoldable pub countReply : ℕ → Reply
 countReply n = reply (plain n) (pos 0) (pos 0) (pos 0)
 
--- there: the card, and card and column with it
-unfoldable pub atReply : ℕ → ℕ → Reply
-atReply card column = reply (plain card) (plain card) (plain column) (pos 0)
+-- one, with its card and column
+unfoldable pub onlyReply : ℕ → ℕ → Reply
+onlyReply card column = reply (pos 1) (plain card) (plain column) (pos 0)
 
 -- a check: the number of all faults, or the header's refusal
 unfoldable pub tiesReply : Ties → Reply
 tiesReply (ties.Found n) = countReply n
 tiesReply (ties.Refused r) = refusedReply r
 
--- the number of a key's definitions, or the refusal
-unfoldable pub definitionsReply : Definitions → Reply
-definitionsReply (number.Number n) = countReply n
-definitionsReply (number.Refused r) = refusedReply r
-
--- where a key's only definition stands, or the refusal
-unfoldable pub placeReply : Place → Reply
-placeReply (place.At card column) = atReply card column
-placeReply (place.Refused r) = refusedReply r
+-- a key: the number of its definitions, with the place of the only one; or the refusal
+unfoldable pub keyReply : Defined → Reply
+keyReply defined.None = doneReply
+keyReply (defined.Only card column) = onlyReply card column
+keyReply (defined.Several n) = countReply n
+keyReply (defined.Refused r) = refusedReply r

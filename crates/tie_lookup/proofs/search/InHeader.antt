@@ -1,25 +1,26 @@
 -- One card more.
-use Prim.Native.Nat.{ℕ, _+_, _*_, _-_, _/_, _%_, _≤_, _<_}
-use native.Mathlib.Nat.{mul-comm}
-use native.Mathlib.Decide.{decLt}
+use Prim.Native.Nat.{ℕ, _+_, _*_, _/_, _%_, _≤_, _<_}
 use native.Mathlib.Omega.{arith}
 use mathlib.Core.Path.{_≡_, refl, sym, ap, _∙_}
-use mathlib.Core.Bool.{Bool, true, false}
 use mathlib.Core.List.{List}
 use Rattle.base_lists.specs.Count.{count}
-use Rattle.base_lists.proofs.Counting.{count-none, count-same, count-run, count-le, none-pass}
-use Rattle.base_lists.proofs.Finding.{first-unique, first-none, first-below, first-passes}
+use Rattle.base_lists.proofs.Counting.{count-same, count-run, count-le}
 use Rattle.header_check.specs.forms.Cards.{cardAt, cardsIn}
-use Rattle.tie_lookup.specs.packed.Borne.{bears, timesOn, firstOn, bearsAt, timesIn, firstIn}
+use Rattle.tie_lookup.specs.declared.search.Found.{Found}
+use Rattle.tie_lookup.specs.packed.Borne.{bears, bearsAt, onlyOf, foundOf, onlyWith, foundOn, foundOver}
+use Rattle.tie_lookup.proofs.search.OnlyOne.{only-more, only-same}
 
 module _ (h : List ℕ) (number : ℕ) where
-  -- how many of the places on the first cards define the key
+  -- how many of the places on the first cards define the key, and the only one that does
   unfoldable pub timesTo : ℕ → ℕ
   timesTo c = count (bearsAt h number) (80 * c)
 
-  pub no-cards : 0 ≡ timesTo 0
-  unfolding timesTo count
-  no-cards = refl
+  unfoldable pub onlyTo : ℕ → ℕ
+  onlyTo c = onlyOf (bearsAt h number) (80 * c)
+
+  pub no-cards : (0 ≡ timesTo 0) × (0 ≡ onlyTo 0)
+  unfolding timesTo onlyTo onlyOf count
+  no-cards = (refl, refl)
 
   pub times-few : (c : ℕ) → timesTo c ≤ 80 * c
   unfolding timesTo
@@ -33,54 +34,39 @@ module _ (h : List ℕ) (number : ℕ) where
       let b : (80 * c + j) % 80 ≡ j = omega arith in
       rw (a, b)
 
-  one-more : (c : ℕ) → timesTo (c + 1) ≡ timesTo c + timesOn (cardAt h c) number
-  unfolding timesTo timesOn
-  one-more c =
-      count-run (bearsAt h number) 80 c
-      ∙ ap (λ n. count (bearsAt h number) (80 * c) + n) (count-same _ (λ i. bears (cardAt h c) number (i + 1)) 80 (on-card c))
+  module _ (c : ℕ) (s : List ℕ) (is : s ≡ cardAt h c) (here : Found) (on : here ≡ foundOn s number) where
+    there : here ≡ foundOn (cardAt h c) number
+    there = on ∙ ap (λ x. foundOn x number) is
 
-  module _ (c : ℕ) (s : List ℕ) (is : s ≡ cardAt h c) where
-    pub times-more : (found r : ℕ) → found ≡ timesTo c → r ≡ timesOn s number → found + r ≡ timesTo (c + 1)
-    times-more found r f e = omega (arith, one-more c, f, e, ap (λ x. timesOn x number) is)
-
-    -- a card that does not define it
-    pub none-more : (column : ℕ) → timesTo c ≡ 0 → column ≡ firstOn s number → 80 ≤ column → timesTo (c + 1) ≡ 0
-    unfolding firstOn timesOn
-    none-more column z e l =
-        let none : timesOn s number ≡ 0 =
-        count-none (λ i. bears s number (i + 1)) 80 (λ i m. first-below (λ i. bears s number (i + 1)) 80 i (omega (arith, e))) in
-        omega (arith, one-more c, ap (λ x. timesOn x number) is)
-
-    -- the first that does
-    pub first-found : (column : ℕ) → c < cardsIn h → timesTo c ≡ 0 → column ≡ firstOn s number → column < 80
-        → c * 80 + column ≡ firstIn h number
-    unfolding firstOn firstIn timesTo
-    first-found column m z e l =
-        let p : ℕ → Bool = λ i. bears s number (i + 1) in
-        let there : bears (cardAt h c) number (column + 1) ≡ true =
-        ap (λ x. bears x number (column + 1)) (sym is) ∙ ap p e ∙ first-passes p 80 (omega (arith, e)) in
-        let swap : c * 80 + column ≡ 80 * c + column = omega arith in
-        let before : (j : ℕ) → j < 80 * c + column → bearsAt h number j ≡ false = λ j k. fails j k in
-        swap ∙ sym (first-unique (bearsAt h number) (80 * cardsIn h) (80 * c + column) (omega arith) (on-card c column l ∙ there) before)
+    many : here .number ≡ count (λ j. bearsAt h number (80 * c + j)) 80
+    unfolding foundOn foundOf
+    many = ap number-of there ∙ sym (count-same _ (λ i. bears (cardAt h c) number (i + 1)) 80 (on-card c))
       where
-        fails : (j : ℕ) → j < 80 * c + column → bearsAt h number j ≡ false
-        fails j k = elim (decLt j (80 * c)) [
-          | yes u ↦ none-pass (bearsAt h number) (80 * c) z j u
-          | no u ↦
-              let i = j - 80 * c in
-              let q : j ≡ 80 * c + i = omega arith in
-              let b : bears s number (i + 1) ≡ false = first-below (λ i. bears s number (i + 1)) 80 i (omega (arith, e)) in
-              ap (bearsAt h number) q ∙ on-card c i (omega arith) ∙ ap (λ x. bears x number (i + 1)) (sym is) ∙ b
-        ]
+        number-of : Found → ℕ
+        number-of f = f .number
+
+    one : here .only ≡ onlyOf (λ j. bearsAt h number (80 * c + j)) 80
+    unfolding foundOn foundOf
+    one = ap only-of there ∙ sym (only-same _ (λ i. bears (cardAt h c) number (i + 1)) 80 (on-card c))
+      where
+        only-of : Found → ℕ
+        only-of f = f .only
+
+    pub times-more : (found : ℕ) → found ≡ timesTo c → found + here .number ≡ timesTo (c + 1)
+    unfolding timesTo
+    times-more found f = omega (arith, count-run (bearsAt h number) 80 c, f, many)
+
+    pub only-next : (found only from r : ℕ) → found ≡ timesTo c → only ≡ onlyTo c → from ≡ c * 80
+        → r ≡ onlyWith found only (here .number) (from + here .only) → r ≡ onlyTo (c + 1)
+    unfolding timesTo onlyTo
+    only-next found only from r f o b e =
+        let p = bearsAt h number in
+        let size : 80 * (c + 1) ≡ 80 * c + 80 = omega arith in
+        let start : from ≡ 80 * c = omega arith in
+        e ∙ rw (f, o, start, many, one) (sym (only-more p (80 * c) 80)) ∙ sym (ap (onlyOf p) size)
 
   -- all cards
-  pub all-times : (c found : ℕ) → c ≡ cardsIn h → found ≡ timesTo c → found ≡ timesIn h number
-  unfolding timesTo timesIn
-  all-times c found e f = f ∙ ap (λ n. count (bearsAt h number) (80 * n)) e
-
-  pub none-at-all : (c n : ℕ) → c ≡ cardsIn h → n ≡ cardsIn h → timesTo c ≡ 0 → n * 80 ≡ firstIn h number
-  unfolding timesTo firstIn
-  none-at-all c n e q z =
-      let m : 80 * c ≡ 80 * cardsIn h = omega arith in
-      mul-comm n 80 ∙ ap (λ i. 80 * i) q
-      ∙ sym (first-none (bearsAt h number) (80 * cardsIn h) (λ j l. none-pass (bearsAt h number) (80 * c) z j (omega arith)))
+  pub all-found : (c found only : ℕ) → c ≡ cardsIn h → found ≡ timesTo c → only ≡ onlyTo c
+      → (record { number = found; only = only } ≡ foundOver h number)
+  unfolding timesTo onlyTo foundOver foundOf
+  all-found c found only e f o = rw (f, o, e)

@@ -1,16 +1,14 @@
 -- The walk over the columns of a card that can carry a tie finds what all columns have.
-use Prim.Native.Nat.{ℕ, suc, _+_, _-_, _≤_, _<_}
-use native.Mathlib.Numerals.{add-one}
-use native.Mathlib.Decide.{ℕ-discrete, decLe}
+use Prim.Native.Nat.{ℕ, _+_, _-_, _≤_}
+use native.Mathlib.Decide.{ℕ-discrete}
 use native.Mathlib.Omega.{arith}
-use mathlib.Core.Path.{_≡_, refl, sym, ap, ap₂, subst, _∙_}
+use mathlib.Core.Path.{_≡_, refl, sym, ap, ap₂, _∙_}
 use mathlib.Core.Bool.{Bool, true, false, true≢false, _&&_}
 use mathlib.Core.List.{List}
 use lib.Dec.{eqb, ltb}
 use lib.ListN.{getD}
 use Rattle.base_lists.specs.Count.{bit, count}
 use Rattle.base_lists.proofs.Counting.{count-more}
-use Rattle.base_lists.proofs.Finding.{first-unique, first-none}
 use Rattle.header_check.specs.forms.Cards.{layoutOf}
 use Rattle.tie_rules.specs.packed.Numbers.{packed}
 use Rattle.tie_rules.proofs.packing.Steps.{none-packed}
@@ -18,12 +16,13 @@ use Rattle.tie_rules.specs.Ties.{defines}
 use Rattle.tie_rules.specs.packed.Rows.{tieRow, columnIn, definitionIn, foundIn, packedBy}
 use Rattle.tie_rules.proofs.keys.Table.{definition-found, row-is, column-low, column-is}
 use Rattle.tie_rules.specs.Ties.{canTie, tieColumns}
-use Rattle.tie_rules.proofs.columns.Tied.{idle, passed}
-use Rattle.tie_rules.proofs.columns.Slots.{slot-on-card, slot-fifth, slot-next, slot-skips, slot-ends}
+use Rattle.tie_rules.proofs.columns.Tied.{idle}
+use Rattle.tie_rules.proofs.columns.Slots.{slot-on-card}
 use Rattle.tie_rules.proofs.key_laws.Told.{packed-at}
 use Rattle.tie_rules.proofs.columns.Tied.{none-at-zero}
 use Rattle.tie_check.proofs.gather.Slots.{by-slots}
-use Rattle.tie_lookup.specs.packed.Borne.{bears, bearsBy, timesOn, firstOn}
+use Rattle.tie_lookup.specs.packed.Borne.{bears, bearsBy, onlyOf, foundOf, onlyWith, foundOn}
+use Rattle.tie_lookup.proofs.search.OnlyOne.{with-none, with-one, with-several, only-is, only-not}
 
 module _ (s : List ℕ) (number : ℕ) where
   -- a column that cannot carry a tie defines nothing
@@ -62,78 +61,72 @@ module _ (s : List ℕ) (number : ℕ) where
   unfolding timesTo count
   no-times = refl
 
-  pub times-more : (slot column found r : ℕ) (t : Bool) → column ≡ columnAt slot → found ≡ timesTo slot
-      → t ≡ bears s number column → r ≡ bit t → found + r ≡ timesTo (slot + 1)
+  pub times-more : (slot found more : ℕ) (t : Bool) → found ≡ timesTo slot → t ≡ bears s number (columnAt slot) → more ≡ bit t
+      → found + more ≡ timesTo (slot + 1)
   unfolding timesTo
-  times-more slot column found r t e f b q =
+  times-more slot found more t f b q =
       let m = count-more (λ i. bears s number (columnAt i)) slot in
-      omega (arith, m, f, q, ap bit (b ∙ ap (bears s number) e))
+      omega (arith, m, f, q, ap bit b)
 
-  pub all-times : (slot found : ℕ) → slot ≡ 5 → found ≡ timesTo slot → found ≡ timesOn s number
-  unfolding timesTo timesOn
+  all-times : (slot found : ℕ) → slot ≡ 5 → found ≡ timesTo slot → found ≡ count (λ i. bears s number (i + 1)) 80
+  unfolding timesTo
   all-times slot found e f =
       f ∙ ap (count (λ i. bears s number (columnAt i))) e ∙ sym (by-slots (layoutOf s) (bears s number) idle-bears)
 
-  -- none of the columns up to a slot defines it
-  abbrev pub NoneTo : ℕ → Type 0
-  NoneTo slot = (x : ℕ) → x ≤ passed (layoutOf s) slot → x ≤ 80 → bears s number x ≡ false
+  -- what is known of the only column when so many are found
+  pub record Held (found only : ℕ) : Type 0 where
+    pub low : only ≤ 80
+    pub one : found ≡ 1 → bears s number only ≡ true
+    pub other : (found ≡ 1 → ⊥) → only ≡ 0
 
-  pub none-first : NoneTo 0
-  none-first x l m =
-      let e : x ≡ 0 = omega arith in
-      ap (bears s number) e ∙ idle-bears 0 (none-at-zero (layoutOf s))
+  pub held-first : Held 0 0
+  held-first = record { low = omega arith; one = λ e. absurd (omega arith); other = λ e. refl }
 
-  module _ (slot column : ℕ) (t : Bool) (is : column ≡ columnAt slot) (none : NoneTo slot) (bore : t ≡ bears s number column) where
-    -- one slot more
-    after : t ≡ false → NoneTo (suc slot)
-    after miss x l m = elim (decLe x (passed (layoutOf s) slot)) [
-      | yes a ↦ none x a m
-      | no a ↦ elim (ℕ-discrete column 0) [
-        | yes z ↦ idle-bears x (slot-ends (layoutOf s) slot (sym is ∙ z) x (omega arith) m)
-        | no z ↦ elim (ℕ-discrete x column) [
-          | yes q ↦ ap (bears s number) q ∙ sym bore ∙ miss
-          | no q ↦
-              let some : columnAt slot ≡ 0 → ⊥ = λ w. z (is ∙ w) in
-              idle-bears x (slot-skips (layoutOf s) slot some x (omega arith) (omega (arith, is, slot-next (layoutOf s) slot some)))
-        ]
+  -- one slot more
+  pub held-more : (slot column found only more r : ℕ) (t : Bool) → column ≡ columnAt slot → t ≡ bears s number (columnAt slot)
+      → more ≡ bit t → r ≡ onlyWith found only more column → Held found only → Held (found + more) r
+  held-more slot column found only more r true is bore m e held = elim (ℕ-discrete found 0) [
+    | yes z ↦
+        let q : r ≡ column = e ∙ with-one found only more column z m in
+        record {
+          low = omega (arith, is, slot-on-card (layoutOf s) slot);
+          one = λ o. ap (bears s number) (q ∙ is) ∙ sym bore;
+          other = λ o. absurd (o (omega arith));
+        }
+    | no z ↦
+        let q : r ≡ 0 = e ∙ with-several found only more column (λ n. omega arith) (λ n. z (omega arith)) in
+        record { low = omega arith; one = λ o. absurd (z (omega arith)); other = λ o. q }
+  ]
+  held-more slot column found only more r false is bore m e held =
+      let q : r ≡ only = e ∙ with-none found only more column m in
+      record {
+        low = omega (arith, held .low);
+        one = λ o. ap (bears s number) q ∙ held .one (omega arith);
+        other = λ o. q ∙ held .other (λ n. o (omega arith));
+      }
+
+  -- all slots
+  pub all-found : (slot found only : ℕ) → slot ≡ 5 → found ≡ timesTo slot → Held found only
+      → (record { number = found; only = only } ≡ foundOn s number)
+  unfolding foundOn foundOf
+  all-found slot found only e f held =
+      rw (sym n, sym o)
+    where
+      p : ℕ → Bool
+      p i = bears s number (i + 1)
+
+      n : found ≡ count p 80
+      n = all-times slot found e f
+
+      some : bears s number only ≡ true → only ≡ 0 → ⊥
+      some b z = true≢false (sym b ∙ ap (bears s number) z ∙ idle-bears 0 (none-at-zero (layoutOf s)))
+
+      o : only ≡ onlyOf p 80
+      o = elim (ℕ-discrete found 1) [
+        | yes q ↦
+            let b = held .one q in
+            let c : 1 ≤ only = elim (ℕ-discrete only 0) [ yes z ↦ absurd (some b z) | no z ↦ omega arith ] in
+            let back : only - 1 + 1 ≡ only = omega arith in
+            sym (only-is p 80 (only - 1) (sym n ∙ q) (omega (arith, held .low)) (ap (bears s number) back ∙ b) ∙ back)
+        | no q ↦ held .other q ∙ sym (only-not p 80 (λ z. q (n ∙ z)))
       ]
-    ]
-
-    pub none-more : t ≡ false → NoneTo (slot + 1)
-    none-more miss = subst NoneTo (sym (add-one slot)) (after miss)
-
-    -- the first column that does
-    some-column : t ≡ true → column ≡ 0 → ⊥
-    some-column hit z =
-        true≢false (sym hit ∙ bore ∙ ap (bears s number) z ∙ idle-bears 0 (none-at-zero (layoutOf s)))
-
-    pub column-some : t ≡ true → 1 ≤ column
-    column-some hit = elim (ℕ-discrete column 0) [ yes z ↦ absurd (some-column hit z) | no z ↦ omega arith ]
-
-    pub column-first : t ≡ true → (column - 1 ≡ firstOn s number) × (column - 1 ≤ 80)
-    unfolding firstOn
-    column-first hit =
-        let one : 1 ≤ column = column-some hit in
-        let low : column ≤ 80 = omega (arith, is, slot-on-card (layoutOf s) slot) in
-        let back : column - 1 + 1 ≡ column = omega arith in
-        let some : columnAt slot ≡ 0 → ⊥ = λ w. some-column hit (is ∙ w) in
-        let before : (j : ℕ) → j < column - 1 → bears s number (j + 1) ≡ false = λ j l.
-        elim (decLe (j + 1) (passed (layoutOf s) slot)) [
-          | yes a ↦ none (j + 1) a (omega arith)
-          | no a ↦ idle-bears (j + 1) (slot-skips (layoutOf s) slot some (j + 1) (omega arith) (omega (arith, is)))
-        ] in (
-          sym (first-unique (λ i. bears s number (i + 1)) 80 (column - 1) (omega arith)
-              (ap (bears s number) back ∙ sym bore ∙ hit) before),
-          omega arith,
-        )
-
-  -- behind the last slot
-  pub none-at-all : (slot : ℕ) → slot ≡ 5 → NoneTo slot → (80 ≡ firstOn s number) × (80 ≤ 80)
-  unfolding firstOn
-  none-at-all slot e none = (
-    sym (first-none (λ i. bears s number (i + 1)) 80 (λ j l. elim (decLe (j + 1) (passed (layoutOf s) slot)) [
-      | yes a ↦ none (j + 1) a (omega arith)
-      | no a ↦ idle-bears (j + 1) (slot-ends (layoutOf s) slot (slot-fifth (layoutOf s) slot (omega arith)) (j + 1) (omega arith) (omega arith))
-    ])),
-    omega arith,
-  )

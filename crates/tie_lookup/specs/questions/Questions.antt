@@ -1,8 +1,8 @@
--- Questions about a key: how often it is defined, and where its only definition stands.
+-- The question about a key: whether it has no definition, one and where, or several and how many.
 use Prim.Native.Nat.{ℕ}
 use mathlib.Core.List.{List}
 use mathlib.Core.Bool.{Bool, cond, _&&_}
-use lib.Dec.{leb}
+use lib.Dec.{eqb, leb}
 use lib.ListN.{getD}
 use Rattle.base_refusal.specs.Refusals.{refusal}
 use Rattle.header_check.specs.declared.Checked.{Checked}
@@ -13,10 +13,8 @@ use Rattle.tie_rules.specs.Ties.{classes}
 use Rattle.tie_rules.specs.Definitions.{definitionsOf, placeOf}
 use Rattle.tie_lookup.specs.declared.questions.Key.{Key}
 use Rattle.tie_lookup.specs.declared.questions.Key.the-variants.{Whole, Pair, Text}
-use Rattle.tie_lookup.specs.declared.questions.Definitions.{Definitions}
-use Rattle.tie_lookup.specs.declared.questions.Definitions.the-variants as number
-use Rattle.tie_lookup.specs.declared.questions.Place.{Place}
-use Rattle.tie_lookup.specs.declared.questions.Place.the-variants as place
+use Rattle.tie_lookup.specs.declared.questions.Defined.{Defined}
+use Rattle.tie_lookup.specs.declared.questions.Defined.the-variants.{None, Only, Several, Refused}
 
 -- the classes of keys
 unfoldable pub isClass : ℕ → Bool
@@ -38,20 +36,17 @@ keyOffered class (Whole n) text = wholeOffered class (natural n)
 keyOffered class (Pair a b) text = pairOffered class (natural a) (natural b)
 keyOffered class Text text = textOffered class text
 
--- the answer: the header's refusal, then 13 where there is no such class, then the number
-unfoldable pub numberFor : Checked → ℕ → ℕ → Definitions
-numberFor (checked.Refused r) class n = number.Refused r
-numberFor checked.Accepted class n = cond (isClass class) (number.Number n) (number.Refused (refusal 13 0 0))
+-- what a number of definitions, and the place of the only one, say of a key
+unfoldable pub definedBy : ℕ → List ℕ → Defined
+definedBy n at = cond (eqb n 0) None (cond (eqb n 1) (Only (getD at 0 0) (getD at 1 0)) (Several n))
 
--- the same with the card and the column
-unfoldable pub cardFor : Checked → ℕ → List ℕ → Place
-cardFor (checked.Refused r) class at = place.Refused r
-cardFor checked.Accepted class at = cond (isClass class) (place.At (getD at 0 0) (getD at 1 0)) (place.Refused (refusal 13 0 0))
+-- the header's refusal, then 13 where there is no such class, then that
+unfoldable pub answerBy : Checked → ℕ → Defined → Defined
+answerBy (checked.Refused r) class defined = Refused r
+answerBy checked.Accepted class defined = cond (isClass class) defined (Refused (refusal 13 0 0))
 
--- how often the key is defined in a header
-unfoldable pub definitionsFor : List ℕ → ℕ → Key → List ℕ → Definitions
-definitionsFor h class key text = numberFor (refusalOf h) class (definitionsOf h class (keyOffered class key text))
-
--- where its only definition stands
-unfoldable pub placeFor : List ℕ → ℕ → Key → List ℕ → Place
-placeFor h class key text = cardFor (refusalOf h) class (placeOf h class (keyOffered class key text))
+-- the answer
+unfoldable pub keyAnswer : List ℕ → ℕ → Key → List ℕ → Defined
+keyAnswer h class key text =
+    answerBy (refusalOf h) class
+    (definedBy (definitionsOf h class (keyOffered class key text)) (placeOf h class (keyOffered class key text)))
