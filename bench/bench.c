@@ -15,7 +15,7 @@
 enum { LIBRARY, SECOND, PASS, RUNNERS };
 enum { MOST_ROWS = 40, MOST_NUMBERS = MOST_FAULTS * ENTRY_SIZE, SOME_CARDS = 16, CARD_CALLS = 512 };
 
-enum operation { CHECK, COUNT, WHERE, READ, PUT };
+enum operation { CHECK, KEY, READ, PUT };
 
 // What is timed: an operation on a header, or on some cards of one code in turn; its least time by each, in ns a call.
 struct row {
@@ -54,9 +54,8 @@ static int64_t number_at(size_t k)
 static int64_t ask_library(const struct row *r)
 {
     const struct made *h = r->header;
-    return (r->operation == COUNT ? p294_definitions : p294_place)(h->at, h->size, r->key_class, (size_t)r->key.kind + 1,
-                                                                   r->key.first, r->key.second, r->key.text, r->key.length,
-                                                                   numbers, P294_NUMBERS);
+    return p294_key(h->at, h->size, r->key_class, (size_t)r->key.kind + 1, r->key.first, r->key.second, r->key.text,
+                    r->key.length, numbers, P294_NUMBERS);
 }
 
 static void by_library(struct row *r)
@@ -76,15 +75,11 @@ static void by_library(struct row *r)
     }
 }
 
-static int64_t ask_second(const struct row *r)
+static struct defined ask_second(const struct row *r)
 {
-    size_t number = 0;
-    struct place place = {0, 0};
-    if (r->operation == COUNT)
-        count_definitions(r->header->at, r->header->size, r->key_class, &r->key, &number);
-    else
-        find_definition(r->header->at, r->header->size, r->key_class, &r->key, &place);
-    return r->operation == COUNT ? (int64_t)number : place.card;
+    struct defined d;
+    find_key(r->header->at, r->header->size, r->key_class, &r->key, &d);
+    return d;
 }
 
 static void by_second(struct row *r)
@@ -100,7 +95,7 @@ static void by_second(struct row *r)
             v.units = number_at(k);
             sink = put_value(card, CARD_SIZE, r->field, 0, &v).number;
             break;
-        default: sink = ask_second(r);
+        default: sink = (int64_t)ask_second(r).number;
         }
     }
 }
@@ -163,6 +158,14 @@ static void hold_put(struct row *r)
     }
 }
 
+static void hold_key(struct row *r)
+{
+    struct defined d = ask_second(r);
+    int64_t said = ask_library(r);
+    if (said != 1 || d.number != 1 || numbers[0] != (int64_t)d.card || numbers[1] != (int64_t)d.column)
+        fail(r, "the answers differ or a key is not there once");
+}
+
 static void hold(struct row *r)
 {
     if (r->operation == CHECK)
@@ -171,8 +174,8 @@ static void hold(struct row *r)
         hold_read(r, r->cards[k]);
     if (r->operation == PUT)
         hold_put(r);
-    if ((r->operation == COUNT || r->operation == WHERE) && (ask_library(r) != ask_second(r) || ask_second(r) == 0))
-        fail(r, "the answers differ or a key is not there");
+    if (r->operation == KEY)
+        hold_key(r);
 }
 
 // The rows.
@@ -222,22 +225,13 @@ static void card_row(const char *name, enum operation operation, const struct ma
                 memcpy(r->cards[n++], card, CARD_SIZE);
 }
 
-static void question_row(const char *name, enum operation operation, const struct made *h, uint64_t key_class,
-                         struct key key)
-{
-    struct row *r = new_row(name, operation);
-    r->header = h;
-    r->key_class = key_class;
-    r->key = key;
-}
-
 static void card_rows(const struct made *h)
 {
     static const uint8_t serial[] = "A000300";
-    question_row("key question: how often a node is defined", COUNT, h, P294_NODE,
-                 (struct key){.kind = KEY_WHOLE, .first = 300});
-    question_row("key question: where a serial is defined", WHERE, h, P294_SERIAL,
-                 (struct key){.kind = KEY_TEXT, .text = serial, .length = sizeof serial - 1});
+    struct row *r = new_row("question about a key: a serial", KEY);
+    r->header = h;
+    r->key_class = P294_SERIAL;
+    r->key = (struct key){.kind = KEY_TEXT, .text = serial, .length = sizeof serial - 1};
     card_row("field read: whole number", READ, h, "H2210", 2, VALUE_WHOLE);
     card_row("field read: decimal", READ, h, "H2310", 2, VALUE_DECIMAL);
     card_row("field read: last of 18", READ, h, "H2310", 18, VALUE_DECIMAL);
@@ -439,12 +433,12 @@ static void print_stack(void)
 {
     size_t without = depth_of(nothing);
     deep = grown[WORST].rows[SIZES - 1]->header;
-    for (asked = rows; asked->operation != WHERE; asked++)
+    for (asked = rows; asked->operation != KEY; asked++)
         ;
     printf("\nStack, in bytes from the call down to the lowest that was written:\n\n");
     printf("| call | bytes |\n|---|---:|\n");
     printf("| p294_check, 800 cards, as many faults as can be | %zu |\n", depth_of(check_by_library) - without);
-    printf("| p294_place, 800 cards | %zu |\n", depth_of(question_to_library) - without);
+    printf("| p294_key, 800 cards | %zu |\n", depth_of(question_to_library) - without);
     printf("| the second implementation's check | %zu |\n", depth_of(check_by_second) - without);
 }
 

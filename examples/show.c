@@ -39,15 +39,15 @@ static void print_text(const char *title, const uint8_t *card, size_t field)
         printf("%s%.*s\n", title, (int)(at[1] - at[0] + 1), (const char *)card + at[0] - 1);
 }
 
-/* Prints the whole number in a field, if it has one, with the card on which it is defined only. */
+/* Prints the whole number in a field, if it has one, with the place of its only definition or the number of several. */
 static void print_node(size_t length, const uint8_t *card, size_t field)
 {
     int64_t value[P294_NUMBERS], place[P294_NUMBERS];
     if (p294_read_field(card, P294_CARD, field, 0, value, P294_NUMBERS) != P294_WHOLE)
         return;
-    int64_t times = p294_definitions(header, length, P294_NODE, P294_KEY_WHOLE, value[0], 0, header, 0, place, P294_NUMBERS);
+    int64_t times = p294_key(header, length, P294_NODE, P294_KEY_WHOLE, value[0], 0, header, 0, place, P294_NUMBERS);
     printf("node %lld", (long long)value[0]);
-    if (p294_place(header, length, P294_NODE, P294_KEY_WHOLE, value[0], 0, header, 0, place, P294_NUMBERS) > 0)
+    if (times == 1)
         printf(" on card %lld, column %lld\n", (long long)place[0], (long long)place[1]);
     else
         printf(" in %lld places\n", (long long)times);

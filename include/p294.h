@@ -129,15 +129,11 @@ enum {
 /* Kinds of key: a; a and b; the bytes of text. What a kind does not mention is not looked at. */
 enum { P294_KEY_WHOLE = 1, P294_KEY_PAIR = 2, P294_KEY_TEXT = 3 };
 
-/* How often a key is defined in a header. said is the number. A key of another kind than its class has, of no kind at all,
- * or that no card can bear, has no definition. Refused as p294_check refuses the header, then 13 (no such class). */
-int64_t p294_definitions(const uint8_t *header, size_t length, uint64_t key_class, size_t kind, int64_t a, int64_t b,
-                         const uint8_t *text, size_t text_length, int64_t *numbers, size_t room);
-
-/* Where the only definition of a key stands. said is its card, numbers are its card and column; all are 0 where there is
- * not exactly one definition. Refused as p294_definitions. */
-int64_t p294_place(const uint8_t *header, size_t length, uint64_t key_class, size_t kind, int64_t a, int64_t b,
-                   const uint8_t *text, size_t text_length, int64_t *numbers, size_t room);
+/* What a header says of a key. said is the number of its definitions; where it is 1, numbers are the card and the column of
+ * the only one. A key of another kind than its class has, of no kind at all, or that no card can bear, has no definition.
+ * Refused as p294_check refuses the header, then 13 (no such class). */
+int64_t p294_key(const uint8_t *header, size_t length, uint64_t key_class, size_t kind, int64_t a, int64_t b,
+                 const uint8_t *text, size_t text_length, int64_t *numbers, size_t room);
 
 #ifdef __cplusplus
 }

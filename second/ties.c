@@ -251,13 +251,10 @@ static unsigned offered(const struct ties *t, unsigned class, const struct key *
     return classes[class].first + (unsigned)key->first;
 }
 
-// The number and the place of a key's definitions.
-static struct refusal ask(const uint8_t *header, size_t size, uint64_t class, const struct key *key, size_t *number,
-                          struct place *place)
+struct refusal find_key(const uint8_t *header, size_t size, uint64_t class, const struct key *key, struct defined *defined)
 {
     struct ties t;
-    *number = 0;
-    *place = (struct place){0, 0};
+    *defined = (struct defined){0, 0, 0};
     struct refusal r = check_header(header, size);
     if (r.number)
         return r;
@@ -267,22 +264,11 @@ static struct refusal ask(const uint8_t *header, size_t size, uint64_t class, co
     unsigned k = offered(&t, (unsigned)class, key);
     if (k == NUMBERS)
         return r;
-    *number = t.defined[k];
-    for (size_t i = 0; i < t.count && *number == 1; i++)
-        if (t.list[i].role == DEFINES && t.list[i].key == k)
-            *place = (struct place){t.list[i].card, t.list[i].column};
+    defined->number = t.defined[k];
+    for (size_t i = 0; i < t.count && defined->number == 1; i++)
+        if (t.list[i].role == DEFINES && t.list[i].key == k) {
+            defined->card = t.list[i].card;
+            defined->column = t.list[i].column;
+        }
     return r;
-}
-
-struct refusal count_definitions(const uint8_t *header, size_t size, uint64_t class, const struct key *key, size_t *number)
-{
-    struct place place;
-    return ask(header, size, class, key, number, &place);
-}
-
-struct refusal find_definition(const uint8_t *header, size_t size, uint64_t class, const struct key *key,
-                               struct place *place)
-{
-    size_t number;
-    return ask(header, size, class, key, &number, place);
 }

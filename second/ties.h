@@ -18,8 +18,9 @@ struct key {
     size_t length;
 };
 
-// Both 0 where the definitions are not exactly one.
-struct place {
+// What a header says of a key: the number of its definitions, and where the only one stands; both 0 where it is not the only.
+struct defined {
+    size_t number;
     uint32_t card, column;
 };
 
@@ -27,9 +28,7 @@ struct place {
 // is written where the header is refused.
 struct refusal check_ties(const uint8_t *header, size_t size, uint32_t *list, size_t room, size_t *faults);
 
-// How often a key of a class is defined, and where it is if once; 0 where the header or the class is refused.
-struct refusal count_definitions(const uint8_t *header, size_t size, uint64_t class, const struct key *key, size_t *number);
-struct refusal find_definition(const uint8_t *header, size_t size, uint64_t class, const struct key *key,
-                               struct place *place);
+// What a header says of a key of a class; all 0 where the header or the class is refused.
+struct refusal find_key(const uint8_t *header, size_t size, uint64_t class, const struct key *key, struct defined *defined);
 
 #endif

@@ -1,4 +1,4 @@
-// The list of broken ties and both key questions: the library against the second implementation, on what
+// The list of broken ties and the question about a key: the library against the second implementation, on what
 // tests/second/tiecases.c makes.
 #define main tiecases_main
 #include "../second/tiecases.c"
@@ -28,11 +28,11 @@ static void hold_faults(unsigned turn, size_t size)
 // One question in ten has a kind that there is not; the key is then a text without bytes.
 static void hold_question(struct question *q, unsigned turn, size_t size)
 {
-    size_t kind = (size_t)q->key.kind + 1, number = 0;
-    struct place place = {0, 0};
+    size_t kind = (size_t)q->key.kind + 1;
+    struct defined d;
     q->key.text = q->text;
     count_question(q);
-    struct input in = {q->where ? "place" : "definitions", header[0], size, q->text, q->key.length,
+    struct input in = {"key", header[0], size, q->text, q->key.length,
                        {q->class, kind, (uint64_t)q->key.first, (uint64_t)q->key.second, turn}};
     if (turn % 10 == 0)
         kind = turn % 20 ? 0 : 4 + turn;
@@ -40,12 +40,10 @@ static void hold_question(struct question *q, unsigned turn, size_t size)
     if (turn % 10 == 0)
         asked = (struct key){KEY_TEXT, 0, 0, q->text, 0};
     struct lent l = lend(turn);
-    int64_t said = (q->where ? p294_place : p294_definitions)(header[0], size, q->class, kind, q->key.first, q->key.second,
-                                                              q->text, q->key.length, l.numbers, l.room);
-    struct refusal r = q->where ? find_definition(header[0], size, q->class, &asked, &place)
-                                : count_definitions(header[0], size, q->class, &asked, &number);
-    struct expected should = q->where ? (struct expected){place.card, {place.card, place.column, 0}}
-                                      : (struct expected){(int64_t)number, {0, 0, 0}};
+    int64_t said = p294_key(header[0], size, q->class, kind, q->key.first, q->key.second, q->text, q->key.length, l.numbers,
+                            l.room);
+    struct refusal r = find_key(header[0], size, q->class, &asked, &d);
+    struct expected should = {(int64_t)d.number, {d.card, d.column, 0}};
     hold(&in, r.number ? refused(r) : should, said, &l);
 }
 

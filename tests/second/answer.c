@@ -13,8 +13,7 @@
 // With ties the answer to these two is the number of bytes, and there are
 // check N                    the number of broken ties, and a list of N numbers as the check leaves it
 // sum N                      the same with one number for the whole list
-// times CLASS KEY            how often a key is defined: whole N, pair N M, text |bytes|; or streamer, node or motion and N
-// where CLASS KEY            the place of its only definition
+// find CLASS KEY             what the header says of a key: whole N, pair N M, text |bytes|; or streamer, node or motion and N
 #include "../../second/ties.h"
 
 #include <stdio.h>
@@ -392,23 +391,23 @@ static int question_in(struct part s, uint64_t *class, struct key *key, struct b
     return signed_in(rest, &key->first);
 }
 
-static int key_command(struct part args, int where)
+static int find_command(struct part args)
 {
     uint64_t class;
     struct key key;
     struct bytes text;
-    size_t number;
-    struct place place;
+    struct defined d;
     if (!question_in(args, &class, &key, &text))
         return 0;
-    struct refusal r = where ? find_definition(header, header_size, class, &key, &place)
-                             : count_definitions(header, header_size, class, &key, &number);
+    struct refusal r = find_key(header, header_size, class, &key, &d);
     if (r.number)
         say_refused(r);
-    else if (where)
-        printf("at %u %u", (unsigned)place.card, (unsigned)place.column);
+    else if (d.number == 0)
+        printf("none");
+    else if (d.number == 1)
+        printf("only %u %u", (unsigned)d.card, (unsigned)d.column);
     else
-        printf("number %zu", number);
+        printf("several %zu", d.number);
     return 1;
 }
 
@@ -422,10 +421,8 @@ static int tie_answer(struct part name, struct part args)
         return check_command(args, 1);
     if (is(name, "sum"))
         return check_command(args, 0);
-    if (is(name, "times"))
-        return key_command(args, 0);
-    if (is(name, "where"))
-        return key_command(args, 1);
+    if (is(name, "find"))
+        return find_command(args);
     return 0;
 }
 

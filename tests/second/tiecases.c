@@ -376,7 +376,6 @@ static void make_header(unsigned turn)
 // Questions.
 
 struct question {
-    int where;
     uint64_t class;
     struct key key;
     uint8_t text[24];
@@ -441,7 +440,7 @@ static void change_offer(struct question *q)
 static struct question make_question(void)
 {
     static const uint64_t classes[] = {0, 10, 11, 255, 256, 4294967297, UINT64_MAX};
-    struct question q = {.where = (int)below(2)};
+    struct question q = {0};
     unsigned i = below(cards), r = below(KEYED), any = 1 + below(CLASSES), odd = below(7);
     for (unsigned tries = 0; keyed[r].layout != code_of(header[i]) && tries < 100; tries++)
         i = below(cards), r = below(KEYED);
@@ -470,7 +469,7 @@ static void print_byte(uint8_t b)
 static void print_question(const struct question *q)
 {
     static const char *const named[] = {[2] = "streamer", [3] = "node", [5] = "motion"};
-    printf("%s ", q->where ? "where" : "times");
+    printf("find ");
     if (q->key.kind == KEY_WHOLE && q->class <= 5 && named[q->class] && q->key.first % 2 == 0) {
         printf("%s %lld\n", named[q->class], (long long)q->key.first);
         return;
@@ -518,7 +517,7 @@ static size_t room_for(size_t faults)
 // The histogram.
 
 static unsigned came[LAYOUTS][CARD_SIZE + 1][KINDS + 1], paired[PAIRS], rooms[ROOMS], fits[3][ENTRY_SIZE], headers[3];
-static unsigned counted[CLASSES + 1][3], found[CLASSES + 1][2], offered[CLASSES + 1][3], no_class[2], not_asked[2];
+static unsigned counted[CLASSES + 1][3], offered[CLASSES + 1][3], beyond[CLASSES + 1], no_class, not_asked;
 
 static void count_list(const uint32_t *list, size_t faults)
 {
@@ -540,22 +539,34 @@ static void count_room(size_t room, size_t faults)
     fits[entries < faults ? 0 : entries == faults ? 1 : 2][room % ENTRY_SIZE]++;
 }
 
+// Whether a key is of the kind that its class has, and yet no card can bear it.
+static int is_beyond(const struct question *q)
+{
+    static const int64_t most[CLASSES + 1] = {0, 9, 999, 9999, 0, 9, 9, 9, 9999, 0};
+    size_t length = q->key.length;
+    while (length > 0 && q->text[length - 1] == ' ')
+        length--;
+    if (q->class == 4)
+        return q->key.kind == KEY_TEXT && (length == 0 || length > SERIAL_SIZE);
+    if (q->key.kind != (q->class == 7 ? KEY_PAIR : KEY_WHOLE))
+        return 0;
+    return q->key.first < 0 || q->key.first > most[q->class] ||
+           (q->class == 7 && (q->key.second < 0 || q->key.second > 999));
+}
+
 static void count_question(const struct question *q)
 {
-    size_t number = 0;
-    struct place place = {0, 0};
-    struct refusal r = q->where ? find_definition(header[0], cards * CARD_SIZE, q->class, &q->key, &place)
-                                : count_definitions(header[0], cards * CARD_SIZE, q->class, &q->key, &number);
+    struct defined d;
+    struct refusal r = find_key(header[0], cards * CARD_SIZE, q->class, &q->key, &d);
     if (r.number == 13)
-        no_class[q->where]++;
+        no_class++;
     else if (r.number)
-        not_asked[q->where]++;
-    else if (q->where)
-        found[q->class][place.card > 0]++;
-    else
-        counted[q->class][number > 2 ? 2 : number]++;
-    if (r.number == 0)
+        not_asked++;
+    else {
+        counted[q->class][d.number > 2 ? 2 : d.number]++;
         offered[q->class][q->key.kind]++;
+        beyond[q->class] += (unsigned)is_beyond(q);
+    }
 }
 
 static int missing;
@@ -614,16 +625,15 @@ static void room_histogram(void)
 static void question_histogram(void)
 {
     for (unsigned c = 1; c <= CLASSES; c++) {
-        printf("class %u: none %u, one %u, more %u; found %u, not %u; offered whole %u, pair %u, text %u\n", c, counted[c][0],
-               counted[c][1], counted[c][2], found[c][1], found[c][0], offered[c][0], offered[c][1], offered[c][2]);
+        printf("class %u: none %u, only %u, several %u; offered whole %u, pair %u, text %u, beyond %u\n", c, counted[c][0],
+               counted[c][1], counted[c][2], offered[c][0], offered[c][1], offered[c][2], beyond[c]);
         for (unsigned k = 0; k < 3; k++) {
-            demand(counted[c][k] > 0, "count", c, k, 0);
+            demand(counted[c][k] > 0, "answer", c, k, 0);
             demand(offered[c][k] > 0, "key", c, k, 0);
         }
-        demand(found[c][0] > 0 && found[c][1] > 0, "where", c, 0, 0);
+        demand(beyond[c] > 0, "key that no card can bear", c, 0, 0);
     }
-    for (unsigned k = 0; k < 2; k++)
-        demand(no_class[k] > 0 && not_asked[k] > 0, "refused question", k, 0, 0);
+    demand(no_class > 0 && not_asked > 0, "refused question", 0, 0, 0);
 }
 
 int main(int argc, char **argv)
