@@ -8,6 +8,7 @@ use mathlib.Core.Logic.{_↔_}
 use mathlib.Core.List.{List, [], _∷_, _++_, map, List·Memᴰ}
 use lib.ListN.{length, getD, replicate}
 use Rattle.base_refusal.specs.declared.Refusal.{Refusal}
+use Rattle.base_refusal.specs.Refusals.{refusal}
 use Rattle.base_lists.specs.Parts.{part}
 use Rattle.base_value.specs.declared.Value.{Value}
 use Rattle.base_value.specs.declared.Value.the-variants.{Absent, Text}
@@ -34,12 +35,16 @@ use Rattle.card_laws.specs.rewriting.Edges.{edges, found}
 use Rattle.header_check.specs.declared.Checked.the-variants.{Accepted, Refused}
 use Rattle.header_check.specs.forms.Cards.{cardAt, cardsIn, layoutOf, unread}
 use Rattle.header_check.specs.Refusing.{refusalOf}
-use Rattle.tie_rules.specs.Ties.{Role, lineFor}
-use Rattle.tie_rules.specs.Keys.{keyAt}
+use Rattle.tie_rules.specs.Ties.{Role, defines, refers, lineFor}
+use Rattle.tie_rules.specs.Keys.{classAt, keyAt, holdsKey}
 use Rattle.tie_rules.specs.Readings.{keyRead}
+use Rattle.tie_rules.specs.Definitions.{definitionsOf, placeOf}
 use Rattle.tie_rules.specs.Faults.{broken, faults, entries}
 use Rattle.tie_check.specs.declared.Ties.the-variants.{Found}
 use Rattle.tie_check.specs.Answer.{answerFor, listFor}
+use Rattle.tie_lookup.specs.declared.questions.Key.{Key}
+use Rattle.tie_lookup.specs.declared.questions.Defined.the-variants as defined
+use Rattle.tie_lookup.specs.questions.Questions.{isClass, keyOffered, definedBy, keyAnswer, askedAt}
 use Rattle.crew_answer.specs.Answer.{answerTo}
 use Rattle.crew_answer.specs.lines.Text.{bytes, newline}
 use Rattle.promises.specs.Header.{headerRows}
@@ -53,6 +58,7 @@ use Rattle.card_laws.proofs.exactly.Cards as whole-cards
 use Rattle.card_laws.proofs.rewriting.Edge as edge-cases
 use Rattle.tie_laws.proofs.Readings as readings
 use Rattle.tie_laws.proofs.Complete as complete
+use Rattle.tie_lookup.proofs.questions.Agreed as questions
 use Rattle.tie_laws.proofs.ExampleCards.{example}
 use Rattle.crew_answer.proofs.Example as worked-example
 
@@ -207,6 +213,54 @@ pub moved : (h h′ : List ℕ) → refusalOf h ≡ Accepted → (m : Moved h h�
     × ((c column kind : ℕ) → c < cardsIn h
     → List·Memᴰ ((c + 1) ∷ column ∷ kind ∷ []) (listOf h) ↔ List·Memᴰ ((m .order .to c + 1) ∷ column ∷ kind ∷ []) (listOf h′))
 moved = lists.moved
+
+-- A question about a key is answered by its definitions: the header's refusal first, then 13 for a class that there is not, then none,
+-- the place of the only one, or how many there are.
+
+pub question : (h : List ℕ) (class : ℕ) (key : Key) (text : List ℕ) → refusalOf h ≡ Accepted → isClass class ≡ true
+    → keyAnswer h class key text
+    ≡ definedBy (definitionsOf h class (keyOffered class key text)) (placeOf h class (keyOffered class key text))
+question = questions.answer-is
+
+pub question-refused : (h : List ℕ) (class : ℕ) (key : Key) (text : List ℕ) (r : Refusal) → refusalOf h ≡ Refused r
+    → keyAnswer h class key text ≡ defined.Refused r
+question-refused = questions.refused-first
+
+pub no-such-class : (h : List ℕ) (class : ℕ) (key : Key) (text : List ℕ) → refusalOf h ≡ Accepted → isClass class ≡ false
+    → keyAnswer h class key text ≡ defined.Refused (refusal 13 0 0)
+no-such-class = questions.no-class
+
+-- Asked for the key of any reference or definition in an accepted header, it agrees with the list. At a reference: none exactly where
+-- kind 1 stands, several exactly where kind 3 does, and else the one place. At a definition: several exactly where kind 2 stands, and
+-- else its own place. Several tells how many definitions there are.
+
+module _ (h : List ℕ) (a : refusalOf h ≡ Accepted) (c column : ℕ) (l : c < cardsIn h) where
+  pub none-at-reference : holdsKey refers (cardAt h c) column ≡ true
+      → (broken h c column 1 ≡ true) ↔ (askedAt h c column refers ≡ defined.None)
+  none-at-reference = questions.undefined-asked h a c column l
+
+  pub several-at-reference : holdsKey refers (cardAt h c) column ≡ true
+      → (broken h c column 3 ≡ true) ↔ ((n : ℕ) × (askedAt h c column refers ≡ defined.Several n))
+  several-at-reference = questions.ambiguous-asked h a c column l
+
+  pub one-at-reference : holdsKey refers (cardAt h c) column ≡ true
+      → ((broken h c column 1 ≡ false) × (broken h c column 3 ≡ false))
+      ↔ ((x : ℕ) × (y : ℕ) × (askedAt h c column refers ≡ defined.Only x y))
+  one-at-reference = questions.settled-asked h a c column l
+
+  pub several-at-definition : holdsKey defines (cardAt h c) column ≡ true
+      → (broken h c column 2 ≡ true) ↔ ((n : ℕ) × (askedAt h c column defines ≡ defined.Several n))
+  several-at-definition = questions.redefined-asked h a c column l
+
+  pub one-at-definition : holdsKey defines (cardAt h c) column ≡ true → 1 ≤ column → column ≤ 80
+      → (broken h c column 2 ≡ false) ↔ (askedAt h c column defines ≡ defined.Only (c + 1) column)
+  one-at-definition = questions.here-asked h a c column l
+
+  pub as-defined : (r : Role) → holdsKey r (cardAt h c) column ≡ true
+      → askedAt h c column r
+      ≡ definedBy (definitionsOf h (classAt r (cardAt h c) column) (keyAt r (cardAt h c) column))
+      (placeOf h (classAt r (cardAt h c) column) (keyAt r (cardAt h c) column))
+  as-defined = questions.asked-is h a c column l
 
 -- The paper's example of 13 cards.
 

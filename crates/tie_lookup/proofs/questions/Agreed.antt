@@ -35,9 +35,9 @@ use Rattle.tie_lookup.proofs.search.Defined.{definitions-counted, none-
 use Rattle.tie_lookup.specs.declared.questions.Key.{Key}
 use Rattle.tie_lookup.specs.declared.questions.Defined.{Defined}
 use Rattle.tie_lookup.specs.declared.questions.Defined.the-variants.{None, Only, Several, Refused}
-use Rattle.tie_lookup.specs.questions.Questions.{isClass, keyOffered, definedBy, answerBy, keyAnswer}
+use Rattle.tie_lookup.specs.questions.Questions.{isClass, keyOffered, definedBy, answerBy, keyAnswer, offerOf, askedAt}
 use Rattle.tie_lookup.proofs.questions.Answering.{by-none, by-one, by-several}
-use Rattle.tie_lookup.proofs.questions.Offered.{offerOf, offered-back, class-there}
+use Rattle.tie_lookup.proofs.questions.Offered.{offered-back, class-there}
 
 -- which answer it is, and the numbers in it
 abbrev case : Defined → ℕ
@@ -187,7 +187,7 @@ module _ (h : List ℕ) (accepted : refusalOf h ≡ checked.Accepted) (c i : ℕ
   keyOf r = keyAt r (cardAt h c) i
 
   abbrev pub asked : Role → Defined
-  asked r = keyAnswer h (classOf r) (offerOf (classOf r) (keyOf r)) (keyOf r)
+  asked r = askedAt h c i r
 
   is-borne : (r : Role) → holdsKey r (cardAt h c) i ≡ true → borne (classOf r) (keyOf r) ≡ true
   unfolding holdsKey stands isNone
@@ -198,7 +198,8 @@ module _ (h : List ℕ) (accepted : refusalOf h ≡ checked.Accepted) (c i : ℕ
       go (n ∷ ns) e s = s
 
   module _ (r : Role) (held : holdsKey r (cardAt h c) i ≡ true) where
-    asked-is : asked r ≡ definedBy (definitionsOf h (classOf r) (keyOf r)) (placeOf h (classOf r) (keyOf r))
+    -- what is told is what the definitions are
+    pub asked-is : asked r ≡ definedBy (definitionsOf h (classOf r) (keyOf r)) (placeOf h (classOf r) (keyOf r))
     asked-is =
         let b = is-borne r held in
         answer-is h (classOf r) (offerOf (classOf r) (keyOf r)) (keyOf r) accepted (class-there (classOf r) (keyOf r) b)

@@ -6,23 +6,16 @@ use mathlib.Core.Bool.{Bool, true, false, cond}
 use mathlib.Core.List.{List, [], _∷_}
 use lib.Dec.{eqb, leb}
 use lib.IntN.{ℤ, pos, negsuc}
-use lib.ListN.{length, getD}
+use lib.ListN.{length}
 use lib.Seq.{take-all}
 use borrow.Author.Tests.{ne-eqb, eqb-true, le-leb}
 use Rattle.base_digits.proofs.digits.Bools.{and-left, and-right, and-both}
 use Rattle.value_text.specs.text.Texts.{textEnd, textOf, printable}
-use Rattle.tie_rules.specs.Offered.{textClass, pairClass, isWhole, textFits, borne, natural, wholeOffered, pairOffered, textOffered}
+use Rattle.tie_rules.specs.Offered.{isWhole, textFits, borne, natural, wholeOffered, pairOffered, textOffered}
 use Rattle.tie_rules.proofs.packing.Steps.{whole-class}
 use Rattle.tie_rules.proofs.packing.Told.{Borne, a-text, a-pair, a-whole, borne-as}
-use Rattle.tie_lookup.specs.declared.questions.Key.{Key}
 use Rattle.tie_lookup.specs.declared.questions.Key.the-variants.{Whole, Pair, Text}
-use Rattle.tie_lookup.specs.questions.Questions.{isClass, keyOffered}
-
--- a key of a class as it is offered, with its numbers lent beside it in case it is a text
-unfoldable pub offerOf : ℕ → List ℕ → Key
-offerOf class key =
-    cond (eqb class textClass) Text
-    (cond (eqb class pairClass) (Pair (pos (getD key 0 0)) (pos (getD key 1 0))) (Whole (pos (getD key 0 0))))
+use Rattle.tie_lookup.specs.questions.Questions.{isClass, keyOffered, offerOf}
 
 -- a text without blanks behind it is offered as it is
 whole-text : (t : List ℕ) → textFits t ≡ true → textOf t ≡ t

@@ -3,13 +3,16 @@ use Prim.Native.Nat.{ℕ}
 use mathlib.Core.List.{List}
 use mathlib.Core.Bool.{Bool, cond, _&&_}
 use lib.Dec.{eqb, leb}
+use lib.IntN.{pos}
 use lib.ListN.{getD}
 use Rattle.base_refusal.specs.Refusals.{refusal}
 use Rattle.header_check.specs.declared.Checked.{Checked}
 use Rattle.header_check.specs.declared.Checked.the-variants as checked
+use Rattle.header_check.specs.forms.Cards.{cardAt}
 use Rattle.header_check.specs.Refusing.{refusalOf}
-use Rattle.tie_rules.specs.Offered.{natural, wholeOffered, pairOffered, textOffered}
-use Rattle.tie_rules.specs.Ties.{classes}
+use Rattle.tie_rules.specs.Offered.{textClass, pairClass, natural, wholeOffered, pairOffered, textOffered}
+use Rattle.tie_rules.specs.Ties.{Role, classes}
+use Rattle.tie_rules.specs.Keys.{classAt, keyAt}
 use Rattle.tie_rules.specs.Definitions.{definitionsOf, placeOf}
 use Rattle.tie_lookup.specs.declared.questions.Key.{Key}
 use Rattle.tie_lookup.specs.declared.questions.Key.the-variants.{Whole, Pair, Text}
@@ -50,3 +53,15 @@ unfoldable pub keyAnswer : List ℕ → ℕ → Key → List ℕ → Defined
 keyAnswer h class key text =
     answerBy (refusalOf h) class
     (definedBy (definitionsOf h class (keyOffered class key text)) (placeOf h class (keyOffered class key text)))
+
+-- a key of a class as it is offered, with its numbers lent beside it in case it is a text
+unfoldable pub offerOf : ℕ → List ℕ → Key
+offerOf class key =
+    cond (eqb class textClass) Text
+    (cond (eqb class pairClass) (Pair (pos (getD key 0 0)) (pos (getD key 1 0))) (Whole (pos (getD key 0 0))))
+
+-- what is told of the key that a column of a card, counted from 0, refers to or defines
+abbrev pub askedAt : List ℕ → ℕ → ℕ → Role → Defined
+askedAt h c column r =
+    keyAnswer h (classAt r (cardAt h c) column) (offerOf (classAt r (cardAt h c) column) (keyAt r (cardAt h c) column))
+    (keyAt r (cardAt h c) column)
