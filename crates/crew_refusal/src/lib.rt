@@ -57,55 +57,70 @@ fn push_unknown(out: &mut [u8], n: usize, card: &[u8]) -> usize {
     page::push_all(out, code, b"\" is no code of a header card.")
 }
 
-// Puts which card has to stand at a place among the first nine.
+// Puts what has to stand at a place of the opening block.
 fn push_expected(out: &mut [u8], n: usize, place: usize) -> usize {
     if place == 0 {
         return n;
     }
     if OPENING < place {
-        return page::push_form(out, n, b"card # has to be H00@8.", place as u64, 0, 0);
+        return page::push_all(out, n, b"an H00@8 is missing.");
     }
     let words = b"card # has to be H000#.";
     page::push_form(out, n, words, place as u64, (place - 1) as u64, 0)
 }
 
-// Puts where the cards of a layout stand, of which one came too late.
-fn push_home(out: &mut [u8], n: usize, layout: usize) -> usize {
-    if layout == H00X8 {
-        return page::push_all(out, n, b"the H00@8 cards stand together, from card 9 on.");
+// Whether a card is an H00@8 or H00@9 with a code number that is not above another.
+fn comes_before(card: &[u8], number: usize) -> bool {
+    let layout = forms::layout_of(card);
+    ((layout == H00X8) | (layout == H00X9)) & (header_check::code_number(card) <= number)
+}
+
+// Behind which of the cards before a place an H00@8 or H00@9 belongs, by its code number: at least behind H0007.
+fn place_behind(header: &[u8], number: usize, place: usize) -> usize {
+    let mut before = OPENING;
+    while before < place {
+        if !comes_before(page::card_in(header, before + 1), number) {
+            return before;
+        }
+        before += 1;
     }
-    if layout == H00X9 {
-        return page::push_all(
-            out,
-            n,
-            b"the H00@9 cards stand together, directly behind the H00@8 cards.",
-        );
+    before
+}
+
+// Puts behind which card an H00@8 or H00@9 belongs.
+fn push_behind(out: &mut [u8], n: usize, header: &[u8], card: &[u8], place: usize) -> usize {
+    let before = place_behind(header, header_check::code_number(card), place);
+    let words = b"it has to stand directly behind card #, ";
+    let begun = page::push_form(out, n, words, before as u64, 0, 0);
+    let code = page::push_code(out, begun, page::card_in(header, before));
+    page::push(out, code, b'.')
+}
+
+// Puts what is missing before a card that stands behind H0007, or where it has to stand.
+fn push_home(out: &mut [u8], n: usize, header: &[u8], card: &[u8], place: usize) -> usize {
+    let layout = forms::layout_of(card);
+    if layout < OPENING {
+        let words = b"it stands once, as card #.";
+        return page::push_form(out, n, words, (layout + 1) as u64, 0, 0);
     }
-    if OPENING <= layout {
-        return n;
+    if layout <= H00X9 {
+        return push_behind(out, n, header, card, place);
     }
-    page::push_form(
-        out,
-        n,
-        b"it stands once, as card #.",
-        (layout + 1) as u64,
-        0,
-        0,
-    )
+    page::push_all(out, n, b"an H00@8 has to stand before it.")
 }
 
 // 6: which card has to stand here, or where this one has to stand.
-fn push_misplaced(out: &mut [u8], n: usize, card: &[u8], place: usize) -> usize {
+fn push_misplaced(out: &mut [u8], n: usize, header: &[u8], card: &[u8], place: usize) -> usize {
     if card.len() == 0 {
         let begun = page::push_all(out, n, b"The header ends before its opening cards do: ");
         return push_expected(out, begun, place);
     }
     let code = page::push_code(out, n, card);
     let begun = page::push_all(out, code, b" is out of place: ");
-    if place <= OPENING + 1 {
+    if place <= OPENING {
         return push_expected(out, begun, place);
     }
-    push_home(out, begun, forms::layout_of(card))
+    push_home(out, begun, header, card, place)
 }
 
 // 7: which column it is, and of which card.
@@ -173,7 +188,7 @@ fn push_reason(
         3 => page::push_all(out, n, b"The header has more than 800 cards."),
         4 => push_unprintable(out, n, card, column),
         5 => push_unknown(out, n, card),
-        6 => push_misplaced(out, n, card, place),
+        6 => push_misplaced(out, n, header, card, place),
         7 => push_gap(out, n, card, column),
         8 => push_mislabelled(out, n, card),
         _ => push_field(out, n, header, card, number, column),

@@ -18,7 +18,7 @@ use Rattle.header_check.specs.forms.Cards.{cardAt, cardsIn}
 use Rattle.header_check.specs.forms.Forms.{formOf}
 use Rattle.header_check.specs.declared.Checked.{Checked}
 use Rattle.header_check.specs.declared.Checked.the-variants.{Accepted, Refused}
-use Rattle.header_check.specs.Opening.{openingCards, standsAt}
+use Rattle.header_check.specs.Opening.{hasLine, standsAt}
 
 -- the most cards that a header may have
 abbrev pub largest : ℕ
@@ -38,14 +38,14 @@ readable s v =
 unfoldable pub placedVerdict : List ℕ → Form → Bool → Verdict
 placedVerdict s form placed = readable s (cond placed (verdictOf s form) (Offence 6 1))
 
--- one card past the end: 6 where opening cards are missing
-unfoldable pub endVerdict : ℕ → Verdict
-endVerdict n = cond (ltb n openingCards) (Offence 6 1) Fine
+-- one card past the end: 6 where the block has no H00@8
+unfoldable pub endVerdict : Bool → Verdict
+endVerdict line = cond line Fine (Offence 6 1)
 
 -- the verdict on a place of the header, from 0: a card, or what lies past the last
 unfoldable pub verdictAt : List ℕ → ℕ → Verdict
 verdictAt h c =
-    cond (ltb c (cardsIn h)) (placedVerdict (cardAt h c) (formOf h (cardAt h c)) (standsAt h c)) (endVerdict (cardsIn h))
+    cond (ltb c (cardsIn h)) (placedVerdict (cardAt h c) (formOf h (cardAt h c)) (standsAt h c)) (endVerdict (hasLine h))
 
 abbrev pub isFine : Verdict → Bool
 isFine Fine = true

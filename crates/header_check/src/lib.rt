@@ -2,7 +2,6 @@
 pub mod forms;
 
 use crate::forms::NOTES;
-use crate::forms::UNREAD;
 use base_refusal::EMPTY;
 use base_refusal::MISPLACED;
 use base_refusal::ODD_LENGTH;
@@ -21,15 +20,16 @@ use format_layout::names::H00X8;
 use format_layout::names::H00X9;
 use value_text::printable;
 ghost use mathlib.Core.Path.{_≡_};
-ghost use lib.ListN.{length, take};
+ghost use Prim.Native.Nat.{_-_, _≤_};
+ghost use lib.ListN.{length, getD, take};
 ghost use Rattle.format_code.specs.Codes.{codeOf};
 ghost use Rattle.header_check.specs.forms.Cards.{cardsIn};
 ghost use Rattle.header_check.specs.packed.Notes.{notesTo};
-ghost use Rattle.header_check.specs.Opening.{mayFollow, inPlace};
+ghost use Rattle.header_check.specs.Opening.{codeNumber, goesOn};
 ghost use Rattle.header_check.specs.Refusing.{isUnknown, readable, placedVerdict, endVerdict, answerFor, cardsAnswer, refusalOf};
 
-// The cards of the shortest opening block; the layouts 0 to 8 stand there in that order.
-const OPENING: usize = 9;
+// The cards H0000 to H0007, which come first.
+const OPENING: usize = 8;
 
 // The answer to a header.
 pub enum Checked {
@@ -37,31 +37,32 @@ pub enum Checked {
     Refused(Refusal),
 }
 
-// Whether a layout may stand behind another, past the first cards.
-fn may_follow(layout: usize, before: usize) -> bool
-    ensures { λ r. ⌜ r ≡ mayFollow layout before ⌝ }
+// The number that the byte at i is as a digit, 0 for one below the digits.
+fn digit_at(card: &[u8], i: usize) -> usize
+    ensures { λ r. ⌜ (r ≡ getD (now (card .entry)) i 0 - 48) × (r ≤ 207) ⌝ }
 {
-    if layout < H00X8 {
-        return false;
+    let byte = base_lists::byte_at(card, i);
+    if byte < b'0' {
+        return 0;
     }
-    if layout == H00X8 {
-        return before == H00X8;
-    }
-    if layout == H00X9 {
-        return (before == H00X8) | (before == H00X9);
-    }
-    true
+    (byte - b'0') as usize
 }
 
-// Whether the card at a place, from 0, may stand there: by the layout before it alone. That this is the rule of the opening block
-// is proved (header_laws, Opens).
-fn in_place(place: usize, layout: usize, before: usize) -> bool
-    ensures { λ r. ⌜ r ≡ inPlace place layout before ⌝ }
+// The number in a card's code.
+pub fn code_number(card: &[u8]) -> usize
+    ensures { λ r. ⌜ r ≡ codeNumber (now (card .entry)) ⌝ }
+{
+    1000 * digit_at(card, 1) + 100 * digit_at(card, 2) + 10 * digit_at(card, 3) + digit_at(card, 4)
+}
+
+// Whether a card goes on with the opening block at a place, from 0, behind a card with the code number `before`.
+fn goes_on(place: usize, layout: usize, before: usize, number: usize) -> bool
+    ensures { λ r. ⌜ r ≡ goesOn place layout before number ⌝ }
 {
     if place < OPENING {
         return layout == place;
     }
-    may_follow(layout, before)
+    ((layout == H00X8) | (layout == H00X9)) & (before <= number)
 }
 
 fn is_unknown(code: Code) -> bool
@@ -101,13 +102,13 @@ fn judge_placed(card: &[u8], code: Code, form: Form, placed: bool) -> Verdict
 }
 
 // The place past the last card has a verdict like any card, so that the first offence decides for a whole header.
-fn judge_end(count: usize) -> Verdict
-    ensures { λ r. ⌜ r ≡ endVerdict count ⌝ }
+fn judge_end(line: bool) -> Verdict
+    ensures { λ r. ⌜ r ≡ endVerdict line ⌝ }
 {
-    if count < OPENING {
-        return Verdict::Offence(MISPLACED, 1);
+    if line {
+        return Verdict::Fine;
     }
-    Verdict::Fine
+    Verdict::Offence(MISPLACED, 1)
 }
 
 // The answer for a verdict on the card with a number, from 1.
@@ -120,13 +121,16 @@ fn answer_for(verdict: Verdict, card: usize) -> Checked
     }
 }
 
-// All cards, with the notes of the forms that they state: the first offence decides.
+// All cards, with the notes of the forms that they state: the first offence decides. `inside` says that all cards so far belong
+// to the opening block, `line` that an H00@8 is among those that do.
 fn check_cards(header: &[u8], notes: &[u8; NOTES]) -> Checked
     requires { ⌜ now notes ≡ notesTo (now header) (cardsIn (now header)) ⌝ }
     ensures { λ r. ⌜ r ≡ cardsAnswer (now (header .entry)) ⌝ }
 {
     let count = header.len() / CARD;
-    let mut before = UNREAD;
+    let mut inside = true;
+    let mut before = 0;
+    let mut line = false;
     let mut place = 0;
     while place < count {
         let from = place * CARD;
@@ -134,15 +138,18 @@ fn check_cards(header: &[u8], notes: &[u8; NOTES]) -> Checked
         let code = format_code::code_of(&card[..CODE]);
         let layout = forms::number_of(code);
         let form = forms::form_by(notes, layout, card);
-        let placed = in_place(place, layout, before);
+        let number = code_number(card);
+        inside = inside & goes_on(place, layout, before, number);
+        let placed = inside | (line & (H00X9 < layout));
         let verdict = judge_placed(card, code, form, placed);
         let Verdict::Fine = verdict else {
             return answer_for(verdict, place + 1);
         };
-        before = layout;
+        before = number;
+        line = line | (inside & (layout == H00X8));
         place += 1;
     }
-    answer_for(judge_end(count), count + 1)
+    answer_for(judge_end(line), count + 1)
 }
 
 // The answer to a header of whatever length and content.

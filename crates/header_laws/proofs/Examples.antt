@@ -31,7 +31,7 @@ use Rattle.header_check.specs.forms.Cards.{cardAt, cardsIn, byteIn, layoutOf}
 use Rattle.header_check.specs.forms.Forms.{formSaid, onlyForm, statesLine, statesGrid, lineForm, gridForm, formOf}
 use Rattle.header_check.specs.declared.Checked.{Checked}
 use Rattle.header_check.specs.declared.Checked.the-variants.{Accepted, Refused}
-use Rattle.header_check.specs.Opening.{mayFollow, inPlace, layoutBefore, standsAt}
+use Rattle.header_check.specs.Opening.{codeNumber, numberBefore, goesOn, continues, blockEnd, hasLine, standsAt}
 use Rattle.header_check.specs.Refusing.{readable, placedVerdict, endVerdict, verdictAt, offends}
 use Rattle.header_check.specs.Refusing.{answerFor, answerAt, cardsAnswer, refusalOf}
 
@@ -75,12 +75,19 @@ cases =
     -- a blank label is an 8, a byte just behind a label a 7; both before cards are missing
     case (cards ("H0000Line Name:" ∷ "H0001" ∷ [])) (refused 8 2 6) ∷
     case (cards ("H0000Line Name:x" ∷ [])) (refused 7 1 16) ∷
-    -- the card that cannot continue the block; a comment ends it; H00@8 does not stand behind H00@9, nor H0004 later
+    -- the card that cannot continue the block; a comment ends it, also before a code that would rise; no H0004 later
     case (cards ("H0000Line Name:" ∷ "H0001Project Name:" ∷ "H0003Media Specification:" ∷ [])) (refused 6 3 1) ∷
     case (base ("C0001" ∷ "H0019 1   1" ∷ [])) (refused 6 11 1) ∷
-    case (base ("H0019 1   1" ∷ "H0028Line Parameters Vessel: 2 1" ∷ [])) (refused 6 11 1) ∷
     case (base ("H0004Client:" ∷ [])) (refused 6 10 1) ∷
-    case (base ("H0028Line Parameters Vessel: 2 1" ∷ "H0019 1   1" ∷ "H0029 2   1" ∷ "C0001" ∷ [])) Accepted ∷
+    -- H00@8 and H00@9 by code number: vessel by vessel, equal codes; not all H00@8 before any H00@9
+    case (base ("H0019 1   1" ∷ "H0028Line Parameters Vessel: 2 1" ∷ "H0029 2   1" ∷ "H0029 2   2" ∷ "C0001" ∷ [])) Accepted ∷
+    case (base ("H0028Line Parameters Vessel: 2 1" ∷ "H0019 1   1" ∷ [])) (refused 6 11 1) ∷
+    case (base ("H0009 0   1" ∷ [])) (refused 6 10 1) ∷
+    -- an H00@9 needs no H00@8 before it, but the block does: else its first card behind it is out of place, or its end
+    case (eight ++ cards ("H0009 0   1" ∷ "H0018Line Parameters Vessel: 1 1" ∷ [])) Accepted ∷
+    case (eight ++ cards ("H0019 1   1" ∷ "C0001" ∷ [])) (refused 6 10 1) ∷
+    case (eight ++ cards ("H0019 1   1" ∷ "E1000" ∷ [])) (refused 5 10 1) ∷
+    case (eight ++ cards ("H0019 1   1" ∷ [])) (refused 6 10 1) ∷
     -- missing cards come last; a card where an H00@8 has to stand is out of place; 5 comes before 6
     case (cards ("H0000Line Name:" ∷ "H0001Project Name:" ∷ [])) (refused 6 3 1) ∷
     case eight (refused 6 9 1) ∷
@@ -97,7 +104,7 @@ cases =
     -- the form of the only H00@8 with the vessel: form 1, then two of them, one of them later and out of place
     case (base ("H0029 1   1 0996010.250N" ∷ [])) Accepted ∷
     case (base ("H0019 1   1 no latitude " ∷ [])) (refused 9 10 13) ∷
-    case (base ("H0028Line Parameters Vessel: 1 0" ∷ "H0019 1   1 no latitude " ∷ [])) Accepted ∷
+    case (base ("H0028Line Parameters Vessel: 1 0" ∷ "H0029 1   1 no latitude " ∷ [])) Accepted ∷
     case (base ("H0019 1   1 no latitude " ∷ "C0001" ∷ "H0028Line Parameters Vessel: 1 0" ∷ [])) (refused 6 12 1) ∷
     -- the grid may stand behind its points; two of them state nothing
     case (base ("H0101    5 0996010.250N" ∷ "H0100               1" ∷ [])) Accepted ∷
@@ -118,6 +125,6 @@ unfolding count first firstFrom alike part blanks unpadded leading behind valueF
     readingOf layouts passedCodes byteFits fitsAt fits codes placeIn codeAt codeOf layoutAt fieldsOf labelOf inRange firstBad
     columnsOf isBlank spellingOf anySecond neededOn valueOf heldOf judgedOf fieldOffence filledAt gapOffence columnOffence
     labelStands labelOffence offenceAt columnVerdict verdictFrom codeVerdict verdictOf cardAt cardsIn byteIn layoutOf formSaid
-    onlyForm statesLine statesGrid lineForm gridForm formOf mayFollow inPlace layoutBefore standsAt readable placedVerdict
+    onlyForm statesLine statesGrid lineForm gridForm formOf codeNumber numberBefore goesOn continues blockEnd hasLine standsAt readable placedVerdict
     endVerdict verdictAt offends answerFor answerAt cardsAnswer refusalOf
 all-answered = refl

@@ -1,63 +1,53 @@
 -- Cards behind the opening block that change places: each keeps its form and its verdict, and the header is accepted as before.
-use Prim.Native.Nat.{ℕ, zero, suc, _+_, _/_, _%_, _≤_, _<_}
+use Prim.Native.Nat.{ℕ, zero, suc, _/_, _%_, _≤_, _<_}
 use native.Mathlib.Decide.{ℕ-discrete, decLt}
 use native.Mathlib.Omega.{arith}
 use mathlib.Core.Path.{_≡_, refl, sym, ap, _∙_}
 use mathlib.Core.Logic.{_↔_}
 use mathlib.Core.List.{List}
-use mathlib.Core.Bool.{Bool, true, false, cond, _&&_}
+use mathlib.Core.Bool.{Bool, true, false, not, _&&_, true≢false}
 use lib.Dec.{eqb, ltb}
-use lib.ListN.{length, take}
-use Rattle.format_code.specs.Codes.{codeOf}
-use Rattle.value_text.specs.printable.Bytes.{firstBad}
+use lib.ListN.{length}
 use borrow.Author.Tests.{eq-eqb, ne-eqb, lt-ltb, le-ltb}
 use Rattle.base_lists.specs.Count.{count, first, Rearranged}
-use Rattle.base_lists.proofs.Counting.{count-none, count-one}
+use Rattle.base_lists.proofs.Counting.{count-one, count-same}
 use Rattle.base_lists.proofs.Moving.{count-moved}
-use Rattle.base_lists.proofs.Finding.{first-below, first-passes}
-use Rattle.format_layout.specs.declared.Form.{Form}
+use Rattle.base_lists.proofs.Finding.{first-passes, first-same}
 use Rattle.card_check.specs.declared.Verdict.the-variants.{Fine, Offence}
 use Rattle.header_check.specs.forms.Cards.{cardAt, cardsIn, byteIn, layoutOf}
-use Rattle.format_layout.specs.Names.{H00X9}
+use Rattle.format_layout.specs.Names.{H00X8, H00X9}
 use Rattle.header_check.specs.forms.Forms.{formSaid, onlyForm, statesLine, statesGrid, lineForm, gridForm, formOf}
 use Rattle.header_check.specs.declared.Checked.the-variants.{Accepted}
-use Rattle.header_check.specs.Opening.{openingCards, mayFollow, inPlace, layoutBefore, standsAt}
-use Rattle.header_check.specs.Refusing.{isUnknown, readable, placedVerdict, endVerdict, verdictAt, refusalOf}
+use Rattle.header_check.specs.Opening.{codeNumber, numberBefore, continues, blockEnd, hasLine, standsAt}
+use Rattle.header_check.specs.Refusing.{verdictAt, refusalOf}
+use Rattle.header_check.proofs.Block.{block-le, in-block}
 use Rattle.header_laws.proofs.Exactly.{Sized, Fine-throughout, accepted-exactly}
-use Rattle.header_laws.proofs.Opens.{Opens, layoutsIn, opens-exactly}
-
--- where one passes, the first that does is below n
-there : (p : ℕ → Bool) (n : ℕ) → count p n ≡ 1 → first p n < n
-there p n o = elim (decLt (first p n) n) [
-  | yes l ↦ l
-  | no l ↦ absurd (omega (arith, count-none p n (λ i k. first-below p n i (omega arith))))
-]
+use Rattle.header_laws.proofs.Rows.{fine-exactly, past-exactly}
+use Rattle.header_laws.proofs.Opens.{there, never, Opens, opens-exactly}
 
 -- the form that the only card says, when the cards change places
 only-moved : {n : ℕ} (π : Rearranged n) (p q : ℕ → Bool) (a b : ℕ → ℕ)
     → ((i : ℕ) → i < n → q (π .to i) ≡ p i) → ((i : ℕ) → i < n → b (π .to i) ≡ a i) → onlyForm q b n ≡ onlyForm p a n
 unfolding onlyForm
 only-moved {n} π p q a b f g = rw (count-moved π p q f) (elim (ℕ-discrete (count p n) 1) [
-  | yes o ↦ rw (eq-eqb (count p n) 1 o) (ap formSaid (ap b (same o) ∙ g (first p n) (there p n o)))
+  | yes o ↦ rw (eq-eqb (count p n) 1 o) (ap formSaid (ap b (same o) ∙ g (first p n) (there p n (omega arith))))
   | no o ↦ rw (ne-eqb (count p n) 1 o)
 ])
   where
     same : count p n ≡ 1 → first q n ≡ π .to (first p n)
     same o =
-        let l : first p n < n = there p n o in
+        let l : first p n < n = there p n (omega arith) in
         let e : count q n ≡ 1 = count-moved π p q f ∙ o in
-        let m : first q n < n = there q n e in
+        let m : first q n < n = there q n (omega arith) in
         count-one q n e (first q n) (π .to (first p n)) m (π .to-below (first p n) l) (first-passes q n m)
         (f (first p n) l ∙ first-passes p n l)
 
--- h′ is h with its cards in another order: those before an end that covers the opening block keep their places, and none of
--- the block's codes stands behind it
+-- h′ is h with its cards in another order: those before an end keep their places, and no opening code stands behind it
 pub record Moved (h h′ : List ℕ) : Type 0 where
   pub order : Rearranged (cardsIn h)
   pub same-length : length h′ ≡ length h
   pub same-card : (c : ℕ) → c < cardsIn h → cardAt h′ (order .to c) ≡ cardAt h c
   pub end : ℕ
-  pub covers : openingCards ≤ end
   pub kept : (c : ℕ) → c < end → order .to c ≡ c
   pub behind : (c : ℕ) → end ≤ c → c < cardsIn h → H00X9 < layoutOf (cardAt h c)
 
@@ -89,10 +79,49 @@ module _ (h h′ : List ℕ) (m : Moved h h′) where
   kept-card : (c : ℕ) → c < m .end → c < cardsIn h → cardAt h′ c ≡ cardAt h c
   kept-card c l k = ap (cardAt h′) (sym (m .kept c l)) ∙ m .same-card c k
 
-  kept-before : (c : ℕ) → c < m .end → c < cardsIn h → layoutBefore h′ c ≡ layoutBefore h c
-  unfolding layoutBefore
+  kept-before : (c : ℕ) → c < m .end → c < cardsIn h → numberBefore h′ c ≡ numberBefore h c
+  unfolding numberBefore
   kept-before zero l k = refl
-  kept-before (suc c) l k = ap layoutOf (kept-card c (omega arith) (omega arith))
+  kept-before (suc c) l k = ap codeNumber (kept-card c (omega arith) (omega arith))
+
+  -- what stands behind the end came from behind it, and has no opening code
+  behind-there : (c : ℕ) → m .end ≤ c → c < cardsIn h → H00X9 < layoutOf (cardAt h′ c)
+  behind-there c l k =
+      let from = m .order .from c in
+      let e : m .order .to from ≡ c = m .order .to-from c k in
+      let q : cardAt h′ c ≡ cardAt h from = ap (cardAt h′) (sym e) ∙ m .same-card from (m .order .from-below c k) in
+      rw q (m .behind from (elim (decLt from (m .end)) [
+        | yes x ↦ absurd (omega (arith, m .kept from x))
+        | no x ↦ omega arith
+      ]) (m .order .from-below c k))
+
+  -- so the block is what it was
+  continues-alike : (c : ℕ) → c < cardsIn h → continues h′ c ≡ continues h c
+  unfolding continues
+  continues-alike c k = elim (decLt c (m .end)) [
+    | yes l ↦ rw (kept-card c l k, kept-before c l k)
+    | no l ↦ never c (layoutOf (cardAt h′ c)) _ _ (behind-there c (omega arith) k)
+        ∙ sym (never c (layoutOf (cardAt h c)) _ _ (m .behind c (omega arith) k))
+  ]
+
+  same-end : blockEnd h′ ≡ blockEnd h
+  unfolding blockEnd
+  same-end = rw same-count
+      (first-same (λ c. not (continues h′ c)) (λ c. not (continues h c)) (cardsIn h) (λ c k. ap not (continues-alike c k)))
+
+  end-covers : blockEnd h ≤ m .end
+  unfolding continues
+  end-covers = elim (decLt (m .end) (blockEnd h)) [
+    | yes l ↦ absurd (true≢false (sym (in-block h (m .end) l)
+        ∙ never (m .end) (layoutOf (cardAt h (m .end))) _ _ (m .behind (m .end) (omega arith) (omega (arith, block-le h)))))
+    | no l ↦ omega arith
+  ]
+
+  same-line : hasLine h′ ≡ hasLine h
+  unfolding hasLine
+  same-line = rw same-end (ap (ltb 0) (count-same (λ c. eqb (layoutOf (cardAt h′ c)) H00X8)
+      (λ c. eqb (layoutOf (cardAt h c)) H00X8) (blockEnd h)
+      (λ c l. ap (λ (s : List ℕ). eqb (layoutOf s) H00X8) (kept-card c (omega (arith, end-covers)) (omega (arith, block-le h))))))
 
   -- a card behind the end comes to stand behind it
   still-behind : (c : ℕ) → m .end ≤ c → c < cardsIn h → m .end ≤ m .order .to c
@@ -105,22 +134,15 @@ module _ (h h′ : List ℕ) (m : Moved h h′) where
     | no x ↦ omega arith
   ]
 
-  -- and there it is in place, wherever
-  anywhere : (c k before : ℕ) → openingCards ≤ c → H00X9 < k → inPlace c k before ≡ true
-  unfolding inPlace mayFollow
-  anywhere c k before l q =
-      rw (le-ltb c 9 l, le-ltb k 8 (omega arith), ne-eqb k 8 (λ r. omega arith), ne-eqb k 9 (λ r. omega arith))
-
   place-moved : (c : ℕ) → c < cardsIn h → standsAt h′ (m .order .to c) ≡ standsAt h c
   unfolding standsAt
-  place-moved c k = elim (decLt c (m .end)) [
-    | yes l ↦ rw (m .kept c l, kept-card c l k, kept-before c l k)
-    | no l ↦
-        let q : H00X9 < layoutOf (cardAt h c) = m .behind c (omega arith) k in
-        anywhere (m .order .to c) (layoutOf (cardAt h′ (m .order .to c))) (layoutBefore h′ (m .order .to c))
-        (omega (arith, still-behind c (omega arith) k, m .covers)) (rw (m .same-card c k) q)
-        ∙ sym (anywhere c (layoutOf (cardAt h c)) (layoutBefore h c) (omega (arith, m .covers)) q)
-  ]
+  place-moved c k = rw (same-end, same-line, m .same-card c k) (elim (decLt c (m .end)) [
+    | yes l ↦ rw (m .kept c l)
+    | no l ↦ rw (
+      le-ltb (m .order .to c) (blockEnd h) (omega (arith, end-covers, still-behind c (omega arith) k)),
+      le-ltb c (blockEnd h) (omega (arith, end-covers)),
+    )
+  ])
 
   -- every card has the verdict that it had
   pub verdict-moved : (c : ℕ) → c < cardsIn h → verdictAt h′ (m .order .to c) ≡ verdictAt h c
@@ -136,7 +158,7 @@ module _ (h h′ : List ℕ) (m : Moved h h′) where
 
   past-moved : verdictAt h′ (cardsIn h) ≡ verdictAt h (cardsIn h)
   unfolding verdictAt
-  past-moved = rw (same-count, le-ltb (cardsIn h) (cardsIn h) (omega arith))
+  past-moved = rw (same-count, same-line, le-ltb (cardsIn h) (cardsIn h) (omega arith))
 
   fine-there : Fine-throughout h → Fine-throughout h′
   fine-there f c l = elim (decLt c (cardsIn h)) [
@@ -181,42 +203,19 @@ module _ (h h′ : List ℕ) (m : Moved h h′) where
 not-fine : (n column : ℕ) → Offence n column ≡ Fine → ⊥
 not-fine n column q = let z : _≡_ {A = ℕ} 0 1 = cc in omega arith
 
--- a card that is fine is in place
-in-place-by : (s : List ℕ) (form : Form) (placed : Bool) → placedVerdict s form placed ≡ Fine → placed ≡ true
-unfolding placedVerdict readable
-in-place-by s form true e = refl
-in-place-by s form false e = absurd (apart (ltb (firstBad s) 80) (isUnknown (codeOf (take 5 s))) e)
-  where
-    apart : (x y : Bool) → cond x (Offence 4 (firstBad s + 1)) (cond y (Offence 5 1) (Offence 6 1)) ≡ Fine → ⊥
-    apart true y q = not-fine 4 (firstBad s + 1) q
-    apart false true q = not-fine 5 1 q
-    apart false false q = not-fine 6 1 q
-
-card-verdict : (h : List ℕ) (c : ℕ) → c < cardsIn h
-    → verdictAt h c ≡ placedVerdict (cardAt h c) (formOf h (cardAt h c)) (standsAt h c)
-unfolding verdictAt
-card-verdict h c l = rw (lt-ltb c (cardsIn h) l)
-
-short-verdict : (h : List ℕ) → cardsIn h < 9 → verdictAt h (cardsIn h) ≡ Offence 6 1
-unfolding verdictAt endVerdict
-short-verdict h l = rw (le-ltb (cardsIn h) (cardsIn h) (omega arith), lt-ltb (cardsIn h) 9 l)
-
 -- an accepted header opens with a block
-pub accepted-opens : (h : List ℕ) → refusalOf h ≡ Accepted → Opens (layoutsIn h) (cardsIn h)
-accepted-opens h a = opens-exactly h (cardsIn h) enough .0 (λ c l. stands c l)
+pub accepted-opens : (h : List ℕ) → refusalOf h ≡ Accepted → Opens h
+accepted-opens h a = opens-exactly h .0 (λ c l. stands c l, lined (hasLine h) refl)
   where
     fine : Fine-throughout h
     fine = accepted-exactly h .0 a .1
 
-    enough : openingCards ≤ cardsIn h
-    enough = elim (decLt (cardsIn h) 9) [
-      | yes l ↦ absurd (not-fine 6 1 (sym (short-verdict h l) ∙ fine (cardsIn h) (omega arith)))
-      | no l ↦ omega arith
-    ]
+    lined : (b : Bool) → hasLine h ≡ b → b ≡ true
+    lined true e = refl
+    lined false e = absurd (not-fine 6 1 (sym (past-exactly h 6 1 .1 (e, refl, refl)) ∙ fine (cardsIn h) (omega arith)))
 
     stands : (c : ℕ) → c < cardsIn h → standsAt h c ≡ true
-    stands c l =
-        in-place-by (cardAt h c) (formOf h (cardAt h c)) (standsAt h c) (sym (card-verdict h c l) ∙ fine c (omega arith))
+    stands c l = fine-exactly h c l .0 (fine c (omega arith)) .stands
 
 -- the cards behind the opening block of an accepted header, in any other order, are accepted too
 pub accepted-rearranged : (h h′ : List ℕ) (a : refusalOf h ≡ Accepted) (π : Rearranged (cardsIn h)) → length h′ ≡ length h
@@ -226,11 +225,7 @@ accepted-rearranged h h′ a π same card kept = accepted-moved h h′ (record {
   order = π;
   same-length = same;
   same-card = card;
-  end = o .end;
-  covers = omega (arith, o .some, o .ordered);
+  end = accepted-opens h a .end;
   kept = kept;
-  behind = o .later;
+  behind = accepted-opens h a .later;
 }) .0 a
-  where
-    o : Opens (layoutsIn h) (cardsIn h)
-    o = accepted-opens h a

@@ -1,188 +1,218 @@
--- Cards that are all in place are an opening block and then the rest: the rule by the card before says the same as the block's.
+-- Cards that are all in place are an opening block and then the rest, told by its own rule. A block without H00@8 is refused at the
+-- first card behind it, or one past the end.
 use Prim.Native.Nat.{ℕ, zero, suc, _≤_, _<_}
 use native.Mathlib.Decide.{ℕ-discrete, decLt}
 use native.Mathlib.Omega.{arith}
-use mathlib.Core.Path.{_≡_, sym, ap, _∙_}
-use mathlib.Core.Logic.{_↔_}
+use mathlib.Core.Path.{_≡_, refl, sym, ap, _∙_}
+use mathlib.Core.Logic.{_↔_, _⊎_, inl, inr}
 use mathlib.Core.List.{List}
-use mathlib.Core.Bool.{true, _||_, true≢false}
-use lib.Dec.{eqb}
-use borrow.Author.Tests.{eq-eqb, ne-eqb, lt-ltb, le-ltb, eqb-true}
-use Rattle.header_check.specs.forms.Cards.{cardAt, layoutOf}
+use mathlib.Core.Bool.{Bool, true, false, cond, not, _&&_, _||_, true≢false}
+use lib.Dec.{eqb, leb, ltb}
+use lib.ListN.{take, getD}
+use lib.Seq.{getD-take}
+use borrow.Author.Tests.{eq-eqb, ne-eqb, lt-ltb, le-ltb, le-leb, eqb-true, leb-true, ltb-true}
+use Rattle.base_lists.specs.Count.{count, first}
+use Rattle.base_lists.proofs.Counting.{count-some, count-none}
+use Rattle.base_lists.proofs.Finding.{first-below, first-passes, first-unique, first-none}
+use Rattle.format_code.specs.Codes.{byteFits, fitsAt}
+use Rattle.format_code.proofs.Apart.{Fits, in-each}
+use Rattle.format_layout.specs.Table.{layouts}
+use Rattle.format_layout.specs.Layouts.{layoutAt}
+use Rattle.format_layout.specs.packed.Rows.{layoutCount}
 use Rattle.format_layout.specs.Names.{H00X8, H00X9}
-use Rattle.header_check.specs.Opening.{openingCards, mayFollow, inPlace, layoutBefore, standsAt}
+use Rattle.card_check.specs.declared.Verdict.the-variants.{Offence}
+use Rattle.header_check.specs.forms.Cards.{cardAt, cardsIn, byteIn, layoutOf}
+use Rattle.header_check.specs.Opening.{firstCards, codeNumber, numberBefore, goesOn, continues, blockEnd, hasLine, standsAt}
+use Rattle.header_check.specs.Refusing.{readable, placedVerdict, endVerdict, verdictAt}
+use Rattle.header_check.proofs.Block.{block-le, in-block}
+use Rattle.header_check.proofs.forms.Named.{coded-exactly}
 
--- of n cards with these layouts, the first eight are the layouts 0 to 7, then come lines (H00@8), one at least, then
--- waypoints (H00@9) up to the end of the block, and none of these stands behind it
-pub record Opens (layout : ℕ → ℕ) (n : ℕ) : Type 0 where
-  pub lines : ℕ
-  pub end : ℕ
-  pub some : 8 < lines
-  pub ordered : lines ≤ end
-  pub inside : end ≤ n
-  pub eight : (c : ℕ) → c < 8 → layout c ≡ c
-  pub line : (c : ℕ) → 8 ≤ c → c < lines → layout c ≡ H00X8
-  pub waypoint : (c : ℕ) → lines ≤ c → c < end → layout c ≡ H00X9
-  pub later : (c : ℕ) → end ≤ c → c < n → H00X9 < layout c
-
--- a layout k that may follow b
-data Follows (k b : ℕ) : Type 0 where
-  a-line : k ≡ 8 → b ≡ 8 → Follows k b
-  a-waypoint : k ≡ 9 → 8 ≤ b → b ≤ 9 → Follows k b
-  another : 9 < k → Follows k b
-
-follows-by : (k b : ℕ) → mayFollow k b ≡ true → Follows k b
-unfolding mayFollow
-follows-by k b e = elim (decLt k 8) [
-  | yes l ↦ absurd (true≢false (sym e ∙ rw (lt-ltb k 8 l)))
-  | no l ↦ elim (ℕ-discrete k 8) [
-    | yes q ↦ a-line q (eqb-true b 8 (sym (rw (le-ltb k 8 (omega arith), eq-eqb k 8 q)) ∙ e))
-    | no q ↦ elim (ℕ-discrete k 9) [
-      | yes r ↦ go r (rw (le-ltb k 8 (omega arith), ne-eqb k 8 q, eq-eqb k 9 r) at e)
-      | no r ↦ another (omega arith)
-    ]
-  ]
+-- where one passes, the first that does is below n
+pub there : (p : ℕ → Bool) (n : ℕ) → 0 < count p n → first p n < n
+there p n o = elim (decLt (first p n) n) [
+  | yes l ↦ l
+  | no l ↦ absurd (omega (arith, count-none p n (λ i k. first-below p n i (omega arith))))
 ]
-  where
-    go : k ≡ 9 → eqb b 8 || eqb b 9 ≡ true → Follows k b
-    go r t = elim (ℕ-discrete b 8) [
-      | yes x ↦ a-waypoint r (omega arith) (omega arith)
-      | no x ↦ elim (ℕ-discrete b 9) [
-        | yes y ↦ a-waypoint r (omega arith) (omega arith)
-        | no y ↦ absurd (true≢false (sym t ∙ rw (ne-eqb b 8 x, ne-eqb b 9 y)))
-      ]
+
+both : (a b : Bool) → a && b ≡ true → (a ≡ true) × (b ≡ true)
+both true true e = (refl, refl)
+both true false e = (refl, e)
+both false b e = absurd (true≢false (sym e))
+
+-- H0000 to H0007 in that order; then H00@8 and H00@9 up to the end of the block, by code number, never falling, an H00@8 among
+-- them; behind it none of these codes
+pub record Opens (h : List ℕ) : Type 0 where
+  pub end : ℕ
+  pub inside : end ≤ cardsIn h
+  pub eight : (c : ℕ) → c < firstCards → layoutOf (cardAt h c) ≡ c
+  pub vessels : (c : ℕ) → firstCards ≤ c → c < end → (layoutOf (cardAt h c) ≡ H00X8) ⊎ (layoutOf (cardAt h c) ≡ H00X9)
+  pub rising : (c : ℕ) → firstCards ≤ c → suc c < end → codeNumber (cardAt h c) ≤ codeNumber (cardAt h (suc c))
+  pub line : ℕ
+  pub line-from : firstCards ≤ line
+  pub line-below : line < end
+  pub line-is : layoutOf (cardAt h line) ≡ H00X8
+  pub later : (c : ℕ) → end ≤ c → c < cardsIn h → H00X9 < layoutOf (cardAt h c)
+
+-- a card of a layout has its code's bytes
+coded : (s : List ℕ) (k : ℕ) → k < layoutCount → layoutOf s ≡ k → Fits (layoutAt k .code) (take 5 s)
+coded s k l e = in-each (layoutAt k .code) (take 5 s) (coded-exactly s k l .0 e)
+
+byte-is : (s : List ℕ) (i b : ℕ) → i < 5 → eqb b (getD (take 5 s) i 0) ≡ true → getD s i 0 ≡ b
+byte-is s i b l e = sym (getD-take 5 s i 0 l) ∙ sym (eqb-true b (getD (take 5 s) i 0) e)
+
+-- H0007 has the code number 7, and H00@8 and H00@9 have none below it
+number-seven : (s : List ℕ) → layoutOf s ≡ 7 → codeNumber s ≡ 7
+unfolding codeNumber byteIn fitsAt byteFits layoutAt layouts
+number-seven s e =
+    let f : Fits (layoutAt 7 .code) (take 5 s) = coded s 7 (omega arith) e in
+    rw (
+      byte-is s 1 48 (omega arith) (f .second),
+      byte-is s 2 48 (omega arith) (f .third),
+      byte-is s 3 48 (omega arith) (f .fourth),
+      byte-is s 4 55 (omega arith) (f .fifth),
+    )
+
+number-after : (s : List ℕ) → (layoutOf s ≡ H00X8) ⊎ (layoutOf s ≡ H00X9) → 7 ≤ codeNumber s
+unfolding codeNumber byteIn fitsAt byteFits layoutAt layouts
+number-after s (inl q) = omega (arith, byte-is s 4 56 (omega arith) (coded s H00X8 (omega arith) q .fifth))
+number-after s (inr q) = omega (arith, byte-is s 4 57 (omega arith) (coded s H00X9 (omega arith) q .fifth))
+
+-- what goes on with the block behind the first eight
+follows-by : (c k before number : ℕ) → firstCards ≤ c → goesOn c k before number ≡ true
+    → ((k ≡ H00X8) ⊎ (k ≡ H00X9)) × (before ≤ number)
+unfolding goesOn
+follows-by c k before number l e = (
+  elim (ℕ-discrete k H00X8) [
+    | yes q ↦ inl q
+    | no q ↦ elim (ℕ-discrete k H00X9) [
+      | yes r ↦ inr r
+      | no r ↦ absurd (true≢false (sym (two .0) ∙ rw (ne-eqb k H00X8 q, ne-eqb k H00X9 r)))
     ]
+  ],
+  leb-true before number (two .1),
+)
+  where
+    two : (eqb k H00X8 || eqb k H00X9 ≡ true) × (leb before number ≡ true)
+    two = both (eqb k H00X8 || eqb k H00X9) (leb before number) (rw (le-ltb c 8 l) at e)
 
-may-follow : (k b : ℕ) → Follows k b → mayFollow k b ≡ true
-unfolding mayFollow
-may-follow k b (a-line q e) = rw (le-ltb k 8 (omega arith), eq-eqb k 8 q, eq-eqb b 8 e)
-may-follow k b (a-waypoint q l m) =
-    rw (le-ltb k 8 (omega arith), ne-eqb k 8 (λ r. omega arith), eq-eqb k 9 q) (elim (ℕ-discrete b 8) [
-      | yes x ↦ rw (eq-eqb b 8 x)
-      | no x ↦ rw (ne-eqb b 8 x, eq-eqb b 9 (omega arith))
-    ])
-may-follow k b (another l) = rw (le-ltb k 8 (omega arith), ne-eqb k 8 (λ r. omega arith), ne-eqb k 9 (λ r. omega arith))
+follows : (c k before number : ℕ) → firstCards ≤ c → (k ≡ H00X8) ⊎ (k ≡ H00X9) → before ≤ number
+    → goesOn c k before number ≡ true
+unfolding goesOn
+follows c k before number l (inl q) m = rw (le-ltb c 8 l, eq-eqb k H00X8 q, le-leb before number m)
+follows c k before number l (inr q) m =
+    rw (le-ltb c 8 l, ne-eqb k H00X8 (λ r. omega arith), eq-eqb k H00X9 q, le-leb before number m)
 
--- one card more
-one-more : (layout : ℕ → ℕ) (d : ℕ) → 9 ≤ suc d → Opens layout (suc d)
-    → Follows (layout (suc d)) (layout d) → Opens layout (suc (suc d))
-one-more layout d l o (a-line k b) =
-    let m : suc d ≤ o .lines = elim (decLt d (o .lines)) [
-      | yes x ↦ x
-      | no x ↦ elim (decLt d (o .end)) [
-        | yes y ↦ absurd (omega (arith, o .waypoint d (omega arith) y))
-        | no y ↦ absurd (omega (arith, o .later d (omega arith) (omega arith)))
-      ]
-    ] in
-    record {
-      lines = suc (suc d);
-      end = suc (suc d);
-      some = omega arith;
-      ordered = omega arith;
-      inside = omega arith;
-      eight = o .eight;
-      line = λ c a e. elim (ℕ-discrete c (suc d)) [ yes q ↦ ap layout q ∙ k | no q ↦ o .line c a (omega arith) ];
-      waypoint = λ c a e. absurd (omega arith);
-      later = λ c a e. absurd (omega arith);
-    }
-one-more layout d l o (a-waypoint k a b) =
-    let m : suc d ≤ o .end = elim (decLt d (o .end)) [
-      | yes x ↦ x
-      | no x ↦ absurd (omega (arith, o .later d (omega arith) (omega arith)))
-    ] in
-    record {
-      lines = o .lines;
-      end = suc (suc d);
-      some = o .some;
-      ordered = omega (arith, o .ordered, o .inside);
-      inside = omega arith;
-      eight = o .eight;
-      line = o .line;
-      waypoint = λ c u e. elim (ℕ-discrete c (suc d)) [ yes q ↦ ap layout q ∙ k | no q ↦ o .waypoint c u (omega arith) ];
-      later = λ c u e. absurd (omega arith);
-    }
-one-more layout d l o (another k) = record {
-  lines = o .lines;
-  end = o .end;
-  some = o .some;
-  ordered = o .ordered;
-  inside = omega (arith, o .inside);
-  eight = o .eight;
-  line = o .line;
-  waypoint = o .waypoint;
-  later = λ c u e. elim (ℕ-discrete c (suc d)) [
-    | yes q ↦ omega (arith, ap layout q)
-    | no q ↦ o .later c u (omega arith)
-  ];
-}
-
--- nine cards that are the layouts 0 to 8
-nine : (layout : ℕ → ℕ) → ((c : ℕ) → c < 9 → layout c ≡ c) → Opens layout 9
-nine layout f = record {
-  lines = 9;
-  end = 9;
-  some = omega arith;
-  ordered = omega arith;
-  inside = omega arith;
-  eight = λ c l. f c (omega arith);
-  line = λ c l m. let q : c ≡ 8 = omega arith in f c m ∙ q;
-  waypoint = λ c l m. absurd (omega arith);
-  later = λ c l m. absurd (omega arith);
-}
+-- no card with another code goes on with the block
+pub never : (c k before number : ℕ) → H00X9 < k → goesOn c k before number ≡ false
+unfolding goesOn
+never c k before number l = elim (decLt c 8) [
+  | yes m ↦ rw (lt-ltb c 8 m) (ne-eqb k c (λ r. omega arith))
+  | no m ↦ rw (le-ltb c 8 (omega arith), ne-eqb k H00X8 (λ r. omega arith), ne-eqb k H00X9 (λ r. omega arith))
+]
 
 module _ (h : List ℕ) where
-  -- the layouts of the cards
-  abbrev pub layoutsIn : ℕ → ℕ
-  layoutsIn c = layoutOf (cardAt h c)
+  early : (c : ℕ) → c < firstCards → continues h c ≡ eqb (layoutOf (cardAt h c)) c
+  unfolding continues goesOn
+  early c l = rw (lt-ltb c 8 l)
 
-  early : (c : ℕ) → c < 9 → standsAt h c ≡ eqb (layoutsIn c) c
-  unfolding standsAt inPlace
-  early c l = rw (lt-ltb c 9 l)
+  eight-in : (c : ℕ) → c < firstCards → c < blockEnd h → layoutOf (cardAt h c) ≡ c
+  eight-in c l m = eqb-true (layoutOf (cardAt h c)) c (sym (early c l) ∙ in-block h c m)
 
-  late : (d : ℕ) → 9 ≤ suc d → standsAt h (suc d) ≡ mayFollow (layoutsIn (suc d)) (layoutsIn d)
-  unfolding standsAt inPlace layoutBefore
-  late d l = rw (le-ltb (suc d) 9 l)
+  follows-in : (c : ℕ) → firstCards ≤ c → c < blockEnd h
+      → ((layoutOf (cardAt h c) ≡ H00X8) ⊎ (layoutOf (cardAt h c) ≡ H00X9)) × (numberBefore h c ≤ codeNumber (cardAt h c))
+  unfolding continues
+  follows-in c l m = follows-by c (layoutOf (cardAt h c)) (numberBefore h c) (codeNumber (cardAt h c)) l (in-block h c m)
 
-  opens : (n : ℕ) → 9 ≤ n → ((c : ℕ) → c < n → standsAt h c ≡ true) → Opens layoutsIn n
-  opens zero l f = absurd (omega arith)
-  opens (suc zero) l f = absurd (omega arith)
-  opens (suc (suc d)) l f = elim (ℕ-discrete d 7) [
-    | yes q ↦
-        let e : 9 ≡ suc (suc d) = omega arith in
-        rw (← e) (nine layoutsIn (λ c k. eqb-true (layoutsIn c) c (sym (early c k) ∙ f c (omega arith))))
-    | no q ↦ one-more layoutsIn d (omega arith) (opens (suc d) (omega arith) (λ c k. f c (omega arith)))
-        (follows-by (layoutsIn (suc d)) (layoutsIn d) (sym (late d (omega arith)) ∙ f (suc d) (omega arith)))
-  ]
+  -- the first H00@8 of a block that has one
+  abbrev isLine : ℕ → Bool
+  isLine c = eqb (layoutOf (cardAt h c)) H00X8
 
-  in-place : (n : ℕ) → Opens layoutsIn n → (c : ℕ) → c < n → standsAt h c ≡ true
-  in-place n o zero l = early zero (omega arith) ∙ eq-eqb (layoutsIn 0) 0 (o .eight 0 (omega arith))
-  in-place n o (suc d) l = elim (decLt (suc d) 8) [
-    | yes x ↦ early (suc d) (omega arith) ∙ eq-eqb (layoutsIn (suc d)) (suc d) (o .eight (suc d) x)
-    | no x ↦ elim (ℕ-discrete d 7) [
-      | yes q ↦
-          let e : suc d ≡ 8 = omega arith in
-          early (suc d) (omega arith)
-          ∙ eq-eqb (layoutsIn (suc d)) (suc d) (o .line (suc d) (omega arith) (omega (arith, o .some)) ∙ sym e)
-      | no q ↦ late d (omega arith) ∙ may-follow (layoutsIn (suc d)) (layoutsIn d) (behind (omega arith))
-    ]
-  ]
+  some-line : hasLine h ≡ true → first isLine (blockEnd h) < blockEnd h
+  unfolding hasLine
+  some-line e = there isLine (blockEnd h) (ltb-true 0 (count isLine (blockEnd h)) e)
+
+  opens : ((c : ℕ) → c < cardsIn h → standsAt h c ≡ true) → hasLine h ≡ true → Opens h
+  unfolding standsAt numberBefore
+  opens f e = record {
+    end = blockEnd h;
+    inside = block-le h;
+    eight = λ c l. eight-in c l (omega (arith, from, below));
+    vessels = λ c l m. follows-in c l m .0;
+    rising = λ c l m. follows-in (suc c) (omega arith) m .1;
+    line = place;
+    line-from = from;
+    line-below = below;
+    line-is = is;
+    later = λ c l m. ltb-true H00X9 (layoutOf (cardAt h c)) (both (hasLine h) (ltb H00X9 (layoutOf (cardAt h c)))
+        (rw (le-ltb c (blockEnd h) l) at (f c m)) .1);
+  }
     where
-      behind : 9 ≤ suc d → Follows (layoutsIn (suc d)) (layoutsIn d)
-      behind m = elim (decLt (suc d) (o .lines)) [
-        | yes x ↦ a-line (o .line (suc d) (omega arith) x) (o .line d (omega arith) (omega arith))
-        | no x ↦ elim (decLt (suc d) (o .end)) [
-          | yes y ↦ elim (decLt d (o .lines)) [
-            | yes z ↦
-                let b : layoutsIn d ≡ 8 = o .line d (omega arith) z in
-                a-waypoint (o .waypoint (suc d) (omega arith) y) (omega arith) (omega arith)
-            | no z ↦
-                let b : layoutsIn d ≡ 9 = o .waypoint d (omega arith) (omega arith) in
-                a-waypoint (o .waypoint (suc d) (omega arith) y) (omega arith) (omega arith)
-          ]
-          | no y ↦ another (o .later (suc d) (omega arith) l)
-        ]
-      ]
+      place : ℕ
+      place = first isLine (blockEnd h)
 
-  -- all of at least nine cards are in place exactly where they open with a block and none of its codes stands later
-  pub opens-exactly : (n : ℕ) → openingCards ≤ n → ((c : ℕ) → c < n → standsAt h c ≡ true) ↔ Opens layoutsIn n
-  opens-exactly n l = (λ f. opens n l f, λ o. in-place n o)
+      below : place < blockEnd h
+      below = some-line e
+
+      is : layoutOf (cardAt h place) ≡ H00X8
+      is = eqb-true (layoutOf (cardAt h place)) H00X8 (first-passes isLine (blockEnd h) below)
+
+      from : firstCards ≤ place
+      from = elim (decLt place 8) [ yes l ↦ absurd (omega (arith, eight-in place l below, is)) | no l ↦ omega arith ]
+
+  module _ (o : Opens h) where
+    -- the number before does not fall; before the first stands H0007
+    rises : (c : ℕ) → firstCards ≤ c → c < o .end → numberBefore h c ≤ codeNumber (cardAt h c)
+    unfolding numberBefore
+    rises zero m l = absurd (omega arith)
+    rises (suc d) m l = elim (ℕ-discrete d 7) [
+      | yes q ↦ omega (
+        arith,
+        number-seven (cardAt h d) (o .eight d (omega arith) ∙ q),
+        number-after (cardAt h (suc d)) (o .vessels (suc d) m l),
+      )
+      | no q ↦ o .rising d (omega arith) l
+    ]
+
+    goes-on : (c : ℕ) → c < o .end → continues h c ≡ true
+    unfolding continues
+    goes-on c l = elim (decLt c 8) [
+      | yes m ↦ early c m ∙ eq-eqb (layoutOf (cardAt h c)) c (o .eight c m)
+      | no m ↦ follows c (layoutOf (cardAt h c)) (numberBefore h c) (codeNumber (cardAt h c)) (omega arith)
+          (o .vessels c (omega arith) l) (rises c (omega arith) l)
+    ]
+
+    -- the block ends there
+    ends-there : blockEnd h ≡ o .end
+    unfolding blockEnd continues
+    ends-there = elim (decLt (o .end) (cardsIn h)) [
+      | yes l ↦ first-unique stops (cardsIn h) (o .end) l (ap not (over l)) (λ c m. ap not (goes-on c m))
+      | no l ↦ first-none stops (cardsIn h) (λ c m. ap not (goes-on c (omega arith))) ∙ omega (arith, o .inside)
+    ]
+      where
+        stops : ℕ → Bool
+        stops c = not (continues h c)
+
+        over : o .end < cardsIn h → continues h (o .end) ≡ false
+        over l = never (o .end) (layoutOf (cardAt h (o .end))) _ _ (o .later (o .end) (omega arith) l)
+
+    lined : hasLine h ≡ true
+    unfolding hasLine
+    lined = rw ends-there (lt-ltb 0 (count isLine (o .end))
+        (count-some isLine (o .end) (o .line) (o .line-below) (eq-eqb (layoutOf (cardAt h (o .line))) H00X8 (o .line-is))))
+
+    stands : (c : ℕ) → c < cardsIn h → standsAt h c ≡ true
+    unfolding standsAt
+    stands c l = elim (decLt c (o .end)) [
+      | yes m ↦ rw (ends-there, lt-ltb c (o .end) m)
+      | no m ↦ rw (ends-there, le-ltb c (o .end) (omega arith), lined) (lt-ltb H00X9 (layoutOf (cardAt h c)) (o .later c (omega arith) l))
+    ]
+
+  -- all cards are in place and the block has an H00@8 exactly where they open with such a block and none of its codes stands later
+  pub opens-exactly : (((c : ℕ) → c < cardsIn h → standsAt h c ≡ true) × (hasLine h ≡ true)) ↔ Opens h
+  opens-exactly = (λ f. opens (f .0) (f .1), λ o. (stands o, lined o))
+
+  -- a block without H00@8: the first card behind it is a 6, behind its own 4 and 5; where there is none, the place past the end is
+  pub without-line : hasLine h ≡ false → verdictAt h (blockEnd h)
+      ≡ cond (ltb (blockEnd h) (cardsIn h)) (readable (cardAt h (blockEnd h)) (Offence 6 1)) (Offence 6 1)
+  unfolding verdictAt endVerdict placedVerdict standsAt
+  without-line e = rw (e, le-ltb (blockEnd h) (blockEnd h) (omega arith))

@@ -7,7 +7,6 @@ use mathlib.Core.Path.{_≡_, refl, sym, ap, ap₂, _∙_}
 use mathlib.Core.Logic.{_↔_}
 use mathlib.Core.List.{List}
 use mathlib.Core.Bool.{Bool, true, false, cond}
-use lib.Dec.{ltb}
 use lib.ListN.{length, take}
 use borrow.Author.Tests.{lt-ltb, le-ltb}
 use Rattle.base_lists.proofs.Parting.{part-length}
@@ -24,7 +23,7 @@ use Rattle.card_check.proofs.Verdicts.{First, first-offence, fine-everywhere}
 use Rattle.header_check.specs.forms.Cards.{cardAt, cardsIn}
 use Rattle.header_check.specs.forms.Forms.{formOf}
 use Rattle.header_check.proofs.forms.Steps.{card-ends}
-use Rattle.header_check.specs.Opening.{openingCards, standsAt}
+use Rattle.header_check.specs.Opening.{hasLine, standsAt}
 use Rattle.header_check.specs.Refusing.{isUnknown, readable, placedVerdict, endVerdict, verdictAt}
 
 -- what a card in its place or not is refused for
@@ -193,18 +192,16 @@ module _ (h : List ℕ) (c : ℕ) (l : c < cardsIn h) where
   )
 
 module _ (h : List ℕ) where
-  past : verdictAt h (cardsIn h) ≡ cond (ltb (cardsIn h) openingCards) (Offence 6 1) Fine
+  past : (b : Bool) → hasLine h ≡ b → verdictAt h (cardsIn h) ≡ cond b Fine (Offence 6 1)
   unfolding verdictAt endVerdict
-  past = rw (le-ltb (cardsIn h) (cardsIn h) (omega arith))
+  past b e = rw (le-ltb (cardsIn h) (cardsIn h) (omega arith), e)
 
-  -- past the last card there is a 6 exactly where opening cards are missing, and no other number
-  pub past-exactly : (n d : ℕ) → (verdictAt h (cardsIn h) ≡ Offence n d) ↔ ((cardsIn h < openingCards) × (n ≡ 6) × (d ≡ 1))
-  past-exactly n d = (there, λ x. past ∙ rw (lt-ltb (cardsIn h) 9 (x .0), x .1, x .2))
+  -- past the last card there is a 6 exactly where the opening block has no H00@8, and no other number
+  pub past-exactly : (n d : ℕ) → (verdictAt h (cardsIn h) ≡ Offence n d) ↔ ((hasLine h ≡ false) × (n ≡ 6) × (d ≡ 1))
+  past-exactly n d = (λ v. there (hasLine h) refl v, λ x. past false (x .0) ∙ rw (x .1, x .2))
     where
-      there : verdictAt h (cardsIn h) ≡ Offence n d → (cardsIn h < openingCards) × (n ≡ 6) × (d ≡ 1)
-      there v = elim (decLt (cardsIn h) 9) [
-        | yes l ↦
-            let e : Offence 6 1 ≡ Offence n d = sym (past ∙ rw (lt-ltb (cardsIn h) 9 l)) ∙ v in
-            (l, sym (same-number 6 n 1 d e), sym (same-column 6 n 1 d e))
-        | no l ↦ absurd (not-fine n d (sym (past ∙ rw (le-ltb (cardsIn h) 9 (omega arith))) ∙ v))
-      ]
+      there : (b : Bool) → hasLine h ≡ b → verdictAt h (cardsIn h) ≡ Offence n d → (b ≡ false) × (n ≡ 6) × (d ≡ 1)
+      there true e v = absurd (not-fine n d (sym (past true e) ∙ v))
+      there false e v =
+          let q : Offence 6 1 ≡ Offence n d = sym (past false e) ∙ v in
+          (refl, sym (same-number 6 n 1 d q), sym (same-column 6 n 1 d q))

@@ -23,7 +23,7 @@ use Rattle.card_check.specs.Judging.{verdictAt as columnVerdict, verdictFrom, c
 use Rattle.header_check.specs.forms.Cards.{cardAt, cardsIn, byteIn, layoutOf}
 use Rattle.header_check.specs.forms.Forms.{formSaid, onlyForm, statesLine, lineForm, formOf}
 use Rattle.header_check.specs.declared.Checked.the-variants.{Accepted}
-use Rattle.header_check.specs.Opening.{mayFollow, inPlace, layoutBefore, standsAt}
+use Rattle.header_check.specs.Opening.{codeNumber, numberBefore, goesOn, continues, blockEnd, hasLine, standsAt}
 use Rattle.header_check.specs.Refusing.{readable, placedVerdict, endVerdict, verdictAt, offends}
 use Rattle.header_check.specs.Refusing.{answerFor, answerAt, cardsAnswer, refusalOf}
 use Rattle.tie_laws.proofs.Complete.{listOf}
@@ -36,8 +36,8 @@ unfolding count first firstFrom alike part blanks unpadded leading behind valueF
     readingOf layouts passedCodes layoutAt fieldsOf labelOf inRange byteFits fitsAt fits codes placeIn codeAt codeOf firstBad
     columnsOf isBlank spellingOf anySecond neededOn valueOf heldOf judgedOf fieldOffence filledAt gapOffence columnOffence
     labelStands labelOffence offenceAt columnVerdict verdictFrom codeVerdict verdictOf cardAt cardsIn byteIn layoutOf formSaid
-    onlyForm statesLine lineForm formOf mayFollow inPlace layoutBefore standsAt readable placedVerdict endVerdict verdictAt
-    offends answerFor answerAt cardsAnswer refusalOf example
+    onlyForm statesLine lineForm formOf codeNumber numberBefore goesOn continues blockEnd hasLine standsAt readable
+    placedVerdict endVerdict verdictAt offends answerFor answerAt cardsAnswer refusalOf example
 accepted = refl
 
 -- card, column, kind: node 214 twice, streamer 1 of another vessel, and a compass that stands nowhere

@@ -1,6 +1,7 @@
 -- `header_check::check_cards` meets its contract.
 use Prim.Native.Nat.{_+_, _*_, _-_, _/_, _≤_}
-use mathlib.Core.Path.{_≡_, refl, sym, ap, _∙_}
+use mathlib.Core.Path.{_≡_, refl, sym}
+use mathlib.Core.Bool.{_&&_}
 use lib.ListN.{length, take, drop}
 use lib.Seq.{length-take-le}
 use denote.Ref.{now}
@@ -8,45 +9,63 @@ use native.Mathlib.Omega.{arith}
 use borrow.Author.Needs.{needs}
 use Rattle.base_lists.specs.Count.{first, firstFrom}
 use Rattle.base_lists.proofs.Finding.{begins}
-use Rattle.header_check.specs.forms.Cards.{cardsIn, layoutOf}
+use Rattle.header_check.specs.forms.Cards.{cardsIn}
 use Rattle.header_check.proofs.forms.Steps.{card-part, card-ends, card-whole, coded}
-use Rattle.header_check.specs.Opening.{layoutBefore}
+use Rattle.header_check.specs.Opening.{numberBefore}
 use Rattle.header_check.specs.Refusing.{verdictAt, offends}
-use Rattle.header_check.proofs.Walked.{vessel-byte, found, goes-on, ends-at, ends-past, next-before}
+use Rattle.header_check.proofs.Block.{openTo, none-open, lineTo, none-line}
+use Rattle.header_check.proofs.Walked.{vessel-byte, found, next-open, next-before, next-line, goes-on, ends-at, ends-past}
 use Rattle.header_check.proofs.check_cards.Statement.{statement}
 use Rattle.header_check.proofs.check_cards.Tie as tie
 
 abbrev Inv-loop : tie.InvT-loop
-Inv-loop header notes count before₀ place₀ before place = (place ≤ length header / 80) × (before ≡ layoutBefore header place)
+Inv-loop header notes count inside₀ before₀ line₀ place₀ inside before line place =
+    (place ≤ length header / 80) × (inside ≡ openTo header place) × (before ≡ numberBefore header place)
+    × (line ≡ lineTo header place)
     × (first (offends header) (cardsIn header) ≡ firstFrom (offends header) (cardsIn header - place) place)
 
 abbrev μ-loop : tie.MeasureT-loop
-μ-loop header notes count before₀ place₀ before place = length header / 80 - place
+μ-loop header notes count inside₀ before₀ line₀ place₀ inside before line place = length header / 80 - place
 
 loop-holds : tie.Need-loop-holds Inv-loop μ-loop
-unfolding layoutBefore
-loop-holds c = (omega arith, refl, begins _ _)
+unfolding numberBefore
+loop-holds c = (omega arith, none-open _, refl, none-line _, begins _ _)
 
 -- the card lies within the header
 within : (c : tie.In-loop Inv-loop μ-loop)
     → c .before .loop .place * 80 + 80 ≤ length (now (c .before .before .before .args .header))
 within c = card-ends (now (c .before .before .before .args .header)) (c .before .loop .place) (c .loop-test .taken)
 
+-- whether the cards up to it belong to the opening block
+inside-is : (c : tie.After-goes-on Inv-loop μ-loop)
+    → c .before .before .before .before .before .before .before .before .loop .inside && c .goes-on .result
+    ≡ openTo (now (c .before .before .before .before .before .before .before .before .before .before .args .header))
+    (c .before .before .before .before .before .before .before .before .loop .place + 1)
+unfolding cardsIn
+inside-is c =
+    let coding = c .before .before .before in
+    let card = coding .before .before .before in
+    let b = card .before .before .loop in
+    let h = now (card .before .before .before .before .args .header) in
+    next-open h _ (b .place) _ _ _ _ _ (card-part h (b .place)) (card .before .loop-test .taken)
+    (coded _ _ _ (coding .before .code-of .ensures) (coding .number-of .ensures)) (c .before .code-number .ensures)
+    (b .inv .2) (b .inv .1) (c .goes-on .ensures)
+
 -- what is found there is its verdict
 verdict-is : (c : tie.After-judge-placed Inv-loop μ-loop)
-    → c .judge-placed .result ≡ verdictAt (now (c .before .before .before .before .before .before .before .before .before .before .args .header))
-    (c .before .before .before .before .before .before .before .before .loop .place)
+    → c .judge-placed .result ≡ verdictAt (now (c .before .before .before .before .before .before .before .before .before .before .before .args .header))
+    (c .before .before .before .before .before .before .before .before .before .loop .place)
 unfolding cardsIn
 verdict-is c =
-    let coding = c .before .before .before in
+    let coding = c .before .before .before .before in
     let card = coding .before .before .before in
     let known = card .before .before .before in
     let b = card .before .before .loop in
     let h = now (known .before .args .header) in
-    found h (now (known .before .args .notes)) _ (b .place) _ _ _ _ _ (known .before .pre) (card-part h (b .place))
+    found h (now (known .before .args .notes)) _ (b .place) _ _ _ _ _ _ (known .before .pre) (card-part h (b .place))
     (card .before .loop-test .taken) (vessel-byte h (λ i. omega (arith, known .shared-slice-known .given i)) (b .place))
-    (b .inv .1) (coded _ _ _ (coding .before .code-of .ensures) (coding .number-of .ensures)) (c .before .before .form-by .ensures)
-    (c .before .in-place .ensures) (c .judge-placed .ensures)
+    (coded _ _ _ (coding .before .code-of .ensures) (coding .number-of .ensures)) (c .before .before .before .form-by .ensures)
+    (inside-is (c .before)) (b .inv .3) refl (c .judge-placed .ensures)
 
 mul-from : tie.Need-mul-from Inv-loop μ-loop
 mul-from c = omega (arith, within c)
@@ -79,12 +98,15 @@ number-of-requires c κs = search needs
 form-by-requires : tie.Need-form-by-requires Inv-loop μ-loop
 form-by-requires c κs = search needs
 
-in-place-requires : tie.Need-in-place-requires Inv-loop μ-loop
-in-place-requires c κs = search needs
+code-number-requires : tie.Need-code-number-requires Inv-loop μ-loop
+code-number-requires c κs = search needs
+
+goes-on-requires : tie.Need-goes-on-requires Inv-loop μ-loop
+goes-on-requires c κs = search needs
 
 judge-placed-requires : tie.Need-judge-placed-requires Inv-loop μ-loop
 judge-placed-requires c κs =
-    let coding = c .before .before in
+    let coding = c .before .before .before in
     let loop = coding .before .before .before .before in
     let start = loop .before .before .before in
     (card-whole (now (start .args .header)) (loop .before .loop .place) (loop .loop-test .taken), coding .before .code-of .ensures)
@@ -105,9 +127,9 @@ returns : tie.Need-returns Inv-loop μ-loop
 unfolding cardsIn
 returns c =
     let judged = c .before .before .before in
-    let loop = judged .before .before .before .before .before .before .before in
+    let loop = judged .before .before .before .before .before .before .before .before in
     let b = loop .before .loop in
-    ends-at (now (loop .before .before .before .args .header)) (b .place) (loop .loop-test .taken) (b .inv .2)
+    ends-at (now (loop .before .before .before .args .header)) (b .place) (loop .loop-test .taken) (b .inv .4)
     (judged .judge-placed .result) (verdict-is judged) _ _ (c .before .enum-told2 .given .1) _ (c .answer-for .ensures)
 
 add-place : tie.Need-add-place Inv-loop μ-loop
@@ -120,12 +142,16 @@ loop-again : tie.Need-loop-again Inv-loop μ-loop
 unfolding cardsIn
 loop-again c =
     let judged = c .before .before in
-    let loop = judged .before .before .before .before .before .before .before in
+    let coding = judged .before .before .before .before in
+    let loop = coding .before .before .before .before in
     let b = loop .before .loop in
     let h = now (loop .before .before .before .args .header) in (
       omega arith,
-      next-before h (b .place) _ (coded _ _ _ (judged .before .before .before .before .code-of .ensures) (judged .before .before .before .number-of .ensures) ∙ ap layoutOf (card-part h (b .place))),
-      goes-on h (b .place) (loop .loop-test .taken) (b .inv .2) (judged .judge-placed .result) (verdict-is judged)
+      inside-is (judged .before),
+      next-before h _ (b .place) _ (card-part h (b .place)) (judged .before .before .code-number .ensures),
+      next-line h _ (b .place) _ _ _ (card-part h (b .place)) (coded _ _ _ (coding .before .code-of .ensures) (coding .number-of .ensures))
+          (inside-is (judged .before)) (b .inv .3),
+      goes-on h (b .place) (loop .loop-test .taken) (b .inv .4) (judged .judge-placed .result) (verdict-is judged)
           (c .enum-told .given .1),
     )
 
@@ -144,7 +170,7 @@ returns-2 c =
     let h = now (c .before .before .before .before .before .args .header) in
     let b = c .before .before .before .loop in
     let q : b .place ≡ length h / 80 = omega arith in
-    ends-past h (b .place) q (b .inv .2) _ (c .before .judge-end .ensures) _ (c .answer-for2 .ensures)
+    ends-past h (b .place) q (b .inv .4) _ (b .inv .3) _ (c .before .judge-end .ensures) _ (c .answer-for2 .ensures)
 
 pub check-cards-spec : {M : Type 1} → statement M
 check-cards-spec =
@@ -162,7 +188,8 @@ check-cards-spec =
     code-of-requires
     number-of-requires
     form-by-requires
-    in-place-requires
+    code-number-requires
+    goes-on-requires
     judge-placed-requires
     enum-told
     enum-told-2
