@@ -32,7 +32,7 @@ use Rattle.header_check.specs.declared.Checked.{Checked}
 use Rattle.header_check.specs.declared.Checked.the-variants.{Accepted, Refused}
 use Rattle.header_check.specs.forms.Cards.{cardAt, cardsIn}
 use Rattle.header_check.specs.forms.Forms.{formOf}
-use Rattle.header_check.specs.Opening.{openingCards, standsAt}
+use Rattle.header_check.specs.Opening.{hasLine, standsAt}
 use Rattle.header_check.specs.Refusing.{largest, isUnknown as noCode, readable, placedVerdict, endVerdict, verdictAt, offends, answerFor, answerAt, cardsAnswer, refusalOf}
 use Rattle.header_laws.proofs.Rows.{eighty}
 use Rattle.promises.specs.Header.{onCard, cardRows, rowsFrom, headerRows, inCheck}
@@ -101,9 +101,9 @@ module _ (h : List ℕ) where
 
   end-given : (c : ℕ) → c ≡ cardsIn h → given (rowsFrom h 0 c) ≡ inCheck (answerAt h c)
   unfolding rowsFrom given answerAt verdictAt endVerdict answerFor
-  end-given c e = rw (le-ltb c (cardsIn h) (omega arith), ← e) (go (ltb c openingCards))
+  end-given c e = rw (le-ltb c (cardsIn h) (omega arith)) (go (hasLine h))
     where
-      go : (b : Bool) → cond b (some (refusal 6 (c + 1) 1)) none ≡ inCheck (answerFor (cond b (Offence 6 1) Fine) (c + 1))
+      go : (b : Bool) → cond (not b) (some (refusal 6 (c + 1) 1)) none ≡ inCheck (answerFor (cond b Fine (Offence 6 1)) (c + 1))
       go true = refl
       go false = refl
 

@@ -4,7 +4,7 @@ use native.Mathlib.Decide.{decLt}
 use native.Mathlib.Omega.{arith}
 use mathlib.Core.Path.{_≡_, refl, sym, ap, ap₂, _∙_}
 use mathlib.Core.Bool.{true}
-use mathlib.Core.Logic.{_↔_}
+use mathlib.Core.Logic.{_↔_, ⊎-elim}
 use mathlib.Core.List.{List, [], _∷_, List·Memᴰ}
 use lib.ListN.{length, getD, length-map}
 use borrow.Author.Tests.{le-leb}
@@ -88,8 +88,5 @@ moved h h′ a m =
         let o = accepted-opens h a in
         m .block-stays c (omega (arith, l, o .inside)) (le-leb (layoutOf (cardAt h c)) H00X9 (elim (decLt c 8) [
           | yes i ↦ omega (arith, o .eight c i)
-          | no i ↦ elim (decLt c (o .lines)) [
-            | yes j ↦ omega (arith, o .line c (omega arith) j)
-            | no j ↦ omega (arith, o .waypoint c (omega arith) l)
-          ]
+          | no i ↦ ⊎-elim (λ e. omega (arith, e)) (λ e. omega (arith, e)) (o .vessels c (omega arith) l)
         ]))

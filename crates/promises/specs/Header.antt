@@ -17,7 +17,7 @@ use Rattle.header_check.specs.declared.Checked.{Checked}
 use Rattle.header_check.specs.declared.Checked.the-variants.{Accepted, Refused}
 use Rattle.header_check.specs.forms.Cards.{cardAt, cardsIn}
 use Rattle.header_check.specs.forms.Forms.{formOf}
-use Rattle.header_check.specs.Opening.{openingCards, standsAt}
+use Rattle.header_check.specs.Opening.{hasLine, standsAt}
 use Rattle.header_check.specs.Refusing.{largest}
 
 -- rows of a single card, told of the card with a number
@@ -32,9 +32,9 @@ cardRows h c =
     row 6 (c + 1) 1 (not (standsAt h c)) ∷
     map (onCard (c + 1)) (columnsFrom (formOf h (cardAt h c)) (cardAt h c) 75 6)
 
--- so many cards from one on, and what lies past the last: opening cards may be missing
+-- so many cards from one on, and what lies past the last: the opening block may have no H00@8
 unfoldable pub rowsFrom : List ℕ → ℕ → ℕ → List Row
-rowsFrom h zero c = row 6 (c + 1) 1 (ltb c openingCards) ∷ []
+rowsFrom h zero c = row 6 (c + 1) 1 (not (hasLine h)) ∷ []
 rowsFrom h (suc n) c = cardRows h c ++ rowsFrom h n (suc c)
 
 -- the length, and then card by card
