@@ -22,7 +22,7 @@ fn bears_key(card: &[u8], row: u64, number: u64) -> bool
     (0 < defined) & (defined == number)
 }
 
-// The only place so far, where so many were found before it and so many more now, one of them here.
+// The only place once more are found: as it was where there are none, here where the first of all is found, and else 0.
 fn only_with(found: usize, only: usize, more: usize, here: usize) -> usize
     ensures { λ r. ⌜ r ≡ onlyWith found only more here ⌝ }
 {

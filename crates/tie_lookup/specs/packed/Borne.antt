@@ -30,7 +30,7 @@ onlyOf p n = cond (eqb (count p n) 1) (first p n + 1) 0
 unfoldable pub foundOf : (ℕ → Bool) → ℕ → Found
 foundOf p n = record { number = count p n; only = onlyOf p n }
 
--- the only one when so many more are found, one of them here
+-- the only one once more are found: as it was where there are none, here where the first of all is found, and else 0
 unfoldable pub onlyWith : ℕ → ℕ → ℕ → ℕ → ℕ
 onlyWith found only more here = cond (eqb more 0) only (cond (eqb found 0 && eqb more 1) here 0)
 

@@ -48,7 +48,7 @@ unfoldable pub answerBy : Checked → ℕ → Defined → Defined
 answerBy (checked.Refused r) class defined = Refused r
 answerBy checked.Accepted class defined = cond (isClass class) defined (Refused (refusal 13 0 0))
 
--- the answer
+-- what a header says of a key that is offered
 unfoldable pub keyAnswer : List ℕ → ℕ → Key → List ℕ → Defined
 keyAnswer h class key text =
     answerBy (refusalOf h) class
