@@ -261,7 +261,7 @@ fn push_sentence(
         1 => push_undefined(out, n, key),
         2 => {
             let defined = keys::defined_by(text, row);
-            let here = places::place_of(header, card, column);
+            let here = places::place_at(header, card, column);
             push_redefined(out, n, header, keys, defined, here)
         }
         3 => push_ambiguous(out, n, header, keys, key),

@@ -62,7 +62,7 @@ pub fn row_at(layout: usize, column: usize) -> u64 {
 }
 
 // The place of a card's column; 0 where there is no such card.
-pub fn place_of(header: &[u8], card: usize, column: usize) -> usize {
+pub fn place_at(header: &[u8], card: usize, column: usize) -> usize {
     if card == 0 {
         return 0;
     }
