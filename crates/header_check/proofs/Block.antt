@@ -1,9 +1,8 @@
 -- The walk along the opening block: whether all cards so far belong to it, and whether an H00@8 is among them, card by card.
 use Prim.Native.Nat.{ℕ, suc, _+_, _≤_, _<_, min}
 use native.Mathlib.Decide.{decLt, decLe}
-use native.Mathlib.Numerals.{add-one}
 use native.Mathlib.Omega.{arith}
-use mathlib.Core.Path.{_≡_, refl, sym, ap, _∙_}
+use mathlib.Core.Path.{_≡_, refl, sym, _∙_}
 use mathlib.Core.List.{List}
 use mathlib.Core.Bool.{Bool, true, false, not, _&&_, _||_, true≢false}
 use lib.Dec.{eqb, leb, ltb}
@@ -12,7 +11,7 @@ use Rattle.base_lists.specs.Count.{bit, count, first}
 use Rattle.base_lists.proofs.Finding.{first-le, first-below, first-passes}
 use Rattle.header_check.specs.forms.Cards.{cardAt, cardsIn, layoutOf}
 use Rattle.format_layout.specs.Names.{H00X8, H00X9}
-use Rattle.header_check.specs.Opening.{codeNumber, numberBefore, continues, blockEnd, hasLine, standsAt}
+use Rattle.header_check.specs.Opening.{continues, blockEnd, hasLine, standsAt}
 
 -- a test that failed
 passed-not : (b : Bool) → not b ≡ false → b ≡ true
