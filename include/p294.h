@@ -51,7 +51,8 @@ enum {
     P294_TOO_MANY = 3,      /* more than 800 cards; card and column 0 */
     P294_BYTE = 4,          /* a byte outside 32..126, at its column; of a text that is put, column 0 */
     P294_UNKNOWN_CODE = 5,  /* column 1 */
-    P294_OUT_OF_PLACE = 6,  /* the opening cards are not in order, or missing: then one card past the end; column 1 */
+    P294_OUT_OF_PLACE = 6,  /* the opening cards are not in order, or no H00@8 is among them: then at the first card behind
+                               them, or one past the end; column 1 */
     P294_NO_FIELD_HERE = 7, /* something stands in a column that no field covers, at that column */
     P294_LABEL = 8,         /* the label differs; column 6 */
     P294_MALFORMED = 9,     /* a field badly formed, at its first column; of a text that is put, column 0 */

@@ -60,28 +60,43 @@ static unsigned form_for(const struct forms *f, const uint8_t *card, int code)
     }
 }
 
-// How far the opening block has come: the place in `layouts` of the last opening card, or beyond all of them.
-enum { NOT_BEGUN = -1, ENDED = 10 };
+// How far the opening block has come: how many of H0000 to H0007 have stood in their places, and of what follows them the number
+// of the last code, whether an H00@8 was among it, and whether it is over.
+struct opening {
+    int first;
+    unsigned last;
+    int line, over;
+};
 
-// Where a card with a code takes the block, or BROKEN where it may not stand here.
-enum { BROKEN = -2 };
-static int step(int reached, int code)
+// The number in columns 2 to 5 of an opening code.
+static unsigned code_number(const uint8_t *card)
 {
-    int opening = 0 <= code && code <= WAYPOINTS;
-    if (reached < VESSEL_LINE)
-        return code == reached + 1 ? code : BROKEN;
-    if (!opening)
-        return ENDED;
-    if (code == VESSEL_LINE && reached == VESSEL_LINE)
-        return VESSEL_LINE;
-    return code == WAYPOINTS && reached <= WAYPOINTS ? WAYPOINTS : BROKEN;
+    unsigned n = 0;
+    for (unsigned column = 2; column <= 5; column++)
+        n = n * 10 + (at(card, column) - '0');
+    return n;
+}
+
+// Takes one card more; answers whether it may stand here.
+static int take_card(struct opening *o, const uint8_t *card, int code)
+{
+    int opens = 0 <= code && code <= WAYPOINTS;
+    if (o->first < VESSEL_LINE)
+        return code == o->first++;
+    if (!o->over && opens && code >= VESSEL_LINE && code_number(card) >= o->last) {
+        o->last = code_number(card);
+        o->line |= code == VESSEL_LINE;
+        return 1;
+    }
+    o->over = 1;
+    return !opens && o->line;
 }
 
 struct refusal check_header(const uint8_t *header, size_t size)
 {
     struct forms forms;
     size_t cards = size / CARD_SIZE;
-    int reached = NOT_BEGUN;
+    struct opening opening = {0, 0, 0, 0};
     if (size == 0)
         return (struct refusal){1, 0, 0};
     if (size % CARD_SIZE != 0)
@@ -93,13 +108,13 @@ struct refusal check_header(const uint8_t *header, size_t size)
         const uint8_t *card = header + i * CARD_SIZE;
         int code = code_of(card);
         struct refusal r = judge_card(card, CARD_SIZE, form_for(&forms, card, code));
-        reached = step(reached, code);
-        if (r.number != 4 && r.number != 5 && reached == BROKEN)
+        int placed = take_card(&opening, card, code);
+        if (r.number != 4 && r.number != 5 && !placed)
             r = (struct refusal){6, 0, 1};
         if (r.number)
             return (struct refusal){r.number, (uint32_t)i + 1, r.column};
     }
-    if (reached < VESSEL_LINE)
+    if (!opening.line)
         return (struct refusal){6, (uint32_t)cards + 1, 1};
     return (struct refusal){0, 0, 0};
 }

@@ -739,7 +739,12 @@ static uint64_t form_in(const uint8_t *card, unsigned column)
     return card[column - 1] == '1';
 }
 
-// The opening block: one to three vessels, mostly different, and waypoints, mostly theirs.
+static int by_code(const void *a, const void *b)
+{
+    return memcmp(a, b, CODE_SIZE);
+}
+
+// The opening block: one to three vessels, mostly different, and waypoints, mostly theirs, by code number.
 static void good_opening(struct made *h)
 {
     unsigned lines = 1 + (percent(50) ? below(3) : 0), first = below(10);
@@ -754,6 +759,7 @@ static void good_opening(struct made *h)
         good_card(h->at[h->count], WAYPOINTS, form_in(line, 32));
         h->at[h->count++][6] = percent(90) ? line[29] : one_of("0123456789");
     }
+    qsort(h->at[LINE], h->count - LINE, CARD_SIZE, by_code);
 }
 
 // The rest: mostly at most one grid, its points before or behind it, and whatever else is read or passed.
@@ -954,6 +960,34 @@ static int headers(const char *seed, const char *count, int counting)
     return missing;
 }
 
+// Every order of up to four H00@8 and H00@9 of two vessels, equal codes too, and behind it nothing, or a card that may stand
+// there, one with an unknown code, one of the first eight, or a comment and an H00@8 that would rise.
+static int orders(void)
+{
+    static const char *const behind[] = {"", "C0001", "E1000", "H0007", "C0001H0098"};
+    static struct made h;
+    for (unsigned vessel = 0; vessel < 2; vessel++)
+        for (unsigned n = 0; n < 1 + 4 + 16 + 64 + 256; n++)
+            for (unsigned b = 0; b < sizeof behind / sizeof *behind; b++) {
+                memset(&h, 0, sizeof h);
+                for (int l = 0; l < LINE; l++)
+                    open_card((const uint8_t *)layouts[l].code, CODE_SIZE, h.at[h.count++], CARD_SIZE);
+                // the digits of n to the base 4, from 1 to 4 each, are the cards
+                for (unsigned left = n; left; left = (left - 1) / 4) {
+                    uint8_t *card = h.at[h.count++], digit = (uint8_t)('0' + vessel + (left - 1) / 2 % 2);
+                    int line = left % 2;
+                    open_card((const uint8_t[]){'H', '0', '0', digit, line ? '8' : '9'}, CODE_SIZE, card, CARD_SIZE);
+                    card[line ? 29 : 6] = digit;
+                    card[line ? 31 : 10] = '1';
+                }
+                for (const char *code = behind[b]; *code; code += CODE_SIZE)
+                    if (open_card((const uint8_t *)code, CODE_SIZE, h.at[h.count++], CARD_SIZE).number)
+                        memcpy(memset(h.at[h.count - 1], ' ', CARD_SIZE), code, CODE_SIZE);
+                print_header(&h);
+            }
+    return EXIT_SUCCESS;
+}
+
 static int every_code(void)
 {
     for (unsigned n = 0; n < 10000; n++)
@@ -986,11 +1020,13 @@ int main(int argc, char **argv)
 {
     if (argc == 2 && strcmp(argv[1], "codes") == 0)
         return every_code();
+    if (argc == 2 && strcmp(argv[1], "orders") == 0)
+        return orders();
     int of_headers = argc > 1 && strcmp(argv[1], "headers") == 0;
     char **args = argv + 1 + of_headers;
     int left = argc - 1 - of_headers;
     if (left < 2 || left > 3 || (left == 3 && strcmp(args[2], "histogram") != 0)) {
-        fprintf(stderr, "usage: generate codes | generate [headers] SEED COUNT [histogram]\n");
+        fprintf(stderr, "usage: generate codes | generate orders | generate [headers] SEED COUNT [histogram]\n");
         return 2;
     }
     return of_headers ? headers(args[0], args[1], left == 3) : cases(args[0], args[1], left == 3);

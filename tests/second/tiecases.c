@@ -115,6 +115,12 @@ static unsigned any_vessel(void)
     return vessels[below(lines)];
 }
 
+static int by_code(const void *a, const void *b)
+{
+    return memcmp(a, b, CODE_SIZE);
+}
+
+// The opening block, by code number.
 static void open_header(void)
 {
     static const char *const codes[OPENING] = {"H0000", "H0001", "H0002", "H0003", "H0004", "H0005", "H0006", "H0007"};
@@ -145,6 +151,7 @@ static void open_header(void)
     for (unsigned i = 0; i < lines; i++)
         if (percent(60))
             write_whole(header[OPENING + i], 79, 80, stated[i]);
+    qsort(header[OPENING], cards - OPENING, CARD_SIZE, by_code);
 }
 
 static void add_grid(void)
