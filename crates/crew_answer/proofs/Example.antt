@@ -1,7 +1,7 @@
 -- The worked example of the paper: the five lines of its answer, byte by byte.
 use Prim.Native.Nat.{ℕ}
 use mathlib.Core.Path.{_≡_, refl, sym, ap, ap₂, _∙_}
-use mathlib.Core.List.{List, [], _∷_, _++_, map}
+use mathlib.Core.List.{List, [], _∷_, _++_, map, flatMap}
 use lib.ListN.{length, length-map}
 use Rattle.base_digits.specs.digits.Digits.{digits, sizeUpTo}
 use Rattle.tie_rules.specs.Faults.{entryOf, faults, entries}
@@ -15,24 +15,27 @@ joined : List (List ℕ) → List ℕ
 joined [] = []
 joined (e ∷ es) = e ++ joined es
 
-entries-joined : (l : List ℕ) → entries l ≡ joined (map entryOf l)
-unfolding entries joined
-entries-joined [] = refl
-entries-joined (t ∷ l) = ap (λ r. entryOf t ++ r) (entries-joined l)
+entries-joined : (f : ℕ → List ℕ) (l : List ℕ) → flatMap f l ≡ joined (map f l)
+unfolding flatMap joined
+entries-joined f [] = refl
+entries-joined f (t ∷ l) = ap (λ r. f t ++ r) (entries-joined f l)
 
-four-entries : entries (faults example) ≡ 11 ∷ 11 ∷ 2 ∷ 11 ∷ 36 ∷ 2 ∷ 12 ∷ 7 ∷ 4 ∷ 13 ∷ 7 ∷ 1 ∷ []
-unfolding joined
-four-entries = entries-joined (faults example) ∙ ap joined worked
+abbrev sixteen : List ℕ
+sixteen = 11 ∷ 11 ∷ 2 ∷ 1 ∷ 11 ∷ 36 ∷ 2 ∷ 1 ∷ 12 ∷ 7 ∷ 4 ∷ 2 ∷ 13 ∷ 7 ∷ 1 ∷ 1 ∷ []
+
+four-entries : entries example ≡ sixteen
+unfolding entries joined
+four-entries = entries-joined (entryOf example) (faults example) ∙ ap joined worked
 
 four : length (faults example) ≡ 4
-four = sym (length-map (faults example) entryOf) ∙ ap length worked
+four = sym (length-map (faults example) (entryOf example)) ∙ ap length worked
 
-by-entries : answerTo example ≡ brokenText 4 (11 ∷ 11 ∷ 2 ∷ 11 ∷ 36 ∷ 2 ∷ 12 ∷ 7 ∷ 4 ∷ 13 ∷ 7 ∷ 1 ∷ [])
+by-entries : answerTo example ≡ brokenText 4 sixteen
 unfolding answerTo answerOf
 by-entries = rw accepted (ap₂ brokenText four four-entries)
 
 pub five-lines : answerTo example
-    ≡ bytes "broken 4" ++ newline ++ bytes "11 11 2" ++ newline ++ bytes "11 36 2" ++ newline ++ bytes "12 7 4" ++ newline
-    ++ bytes "13 7 1" ++ newline
+    ≡ bytes "broken 4" ++ newline ++ bytes "11 11 2 1" ++ newline ++ bytes "11 36 2 1" ++ newline ++ bytes "12 7 4 2" ++ newline
+    ++ bytes "13 7 1 1" ++ newline
 unfolding brokenText told countText entriesText entryAt entryText spaced numeral digits sizeUpTo
 five-lines = by-entries

@@ -8,9 +8,9 @@ use Rattle.header_check.specs.Refusing.{refusalOf}
 use Rattle.tie_rules.specs.Faults.{faults, entries}
 use Rattle.crew_answer.specs.lines.Text.{refusedText, brokenText}
 
-unfoldable pub answerOf : Checked → List ℕ → List ℕ
-answerOf (Refused r) found = refusedText (r .number) (r .card) (r .column)
-answerOf Accepted found = brokenText (length found) (entries found)
+unfoldable pub answerOf : Checked → ℕ → List ℕ → List ℕ
+answerOf (Refused r) n found = refusedText (r .number) (r .card) (r .column)
+answerOf Accepted n found = brokenText n found
 
 unfoldable pub answerTo : List ℕ → List ℕ
-answerTo h = answerOf (refusalOf h) (faults h)
+answerTo h = answerOf (refusalOf h) (length (faults h)) (entries h)

@@ -1,22 +1,26 @@
 // A header checked, and the whole answer to the crew spelled.
 pub mod lines;
 
+use crate::lines::MOST;
 use tie_check::Ties;
+use tie_check::entries::ENTRY;
 ghost use mathlib.Core.Path.{_≡_};
-ghost use Prim.Native.Nat.{_≤_};
+ghost use Prim.Native.Nat.{_*_, _≤_};
 ghost use lib.ListN.{length};
 ghost use Rattle.base_lists.specs.Laid.{laid};
+ghost use Rattle.tie_rules.specs.Faults.{entrySize};
+ghost use Rattle.crew_answer.specs.lines.Text.{most, longest};
 ghost use Rattle.crew_answer.specs.Answer.{answerTo};
 
-// Three numbers for each entry that is told.
-const ROOM: usize = 12000;
+// Room for the entries that are told.
+const ROOM: usize = MOST * ENTRY;
 
 // Checks a header with a lent list, and spells the answer.
 fn tell_by(header: &[u8], list: &mut [u32; ROOM], out: &mut [u8]) -> usize
-    requires { ⌜ length (now list) ≡ 12000 ⌝ }
+    requires { ⌜ length (now list) ≡ most * entrySize ⌝ }
     ensures bytes { λ _. ⌜ now (out .exit) ≡ laid 1 (now (out .entry)) (answerTo (now (header .entry))) ⌝ }
     ensures size { λ r. ⌜ r ≡ length (answerTo (now (header .entry))) ⌝ }
-    ensures within { λ r. ⌜ r ≤ 132028 ⌝ }
+    ensures within { λ r. ⌜ r ≤ longest ⌝ }
 {
     let ties = tie_check::check(header, list);
     match ties {
@@ -29,7 +33,7 @@ fn tell_by(header: &[u8], list: &mut [u32; ROOM], out: &mut [u8]) -> usize
 pub fn tell(header: &[u8], out: &mut [u8]) -> usize
     ensures bytes { λ _. ⌜ now (out .exit) ≡ laid 1 (now (out .entry)) (answerTo (now (header .entry))) ⌝ }
     ensures size { λ r. ⌜ r ≡ length (answerTo (now (header .entry))) ⌝ }
-    ensures within { λ r. ⌜ r ≤ 132028 ⌝ }
+    ensures within { λ r. ⌜ r ≤ longest ⌝ }
 {
     let mut list = [0u32; ROOM];
     tell_by(header, &mut list, out)

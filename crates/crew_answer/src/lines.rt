@@ -1,20 +1,22 @@
 // The answer to the crew as text: refused and where, or how much is broken and each entry, a line each.
 use base_digits::filling;
+use tie_check::entries::ENTRY;
 ghost use mathlib.Core.Path.{_≡_};
 ghost use Prim.Native.Nat.{_+_, _*_, _≤_, _<_, min};
 ghost use lib.ListN.{length, set};
 ghost use lib.Seq.{sets};
 ghost use Rattle.base_lists.specs.Laid.{laid};
-ghost use Rattle.crew_answer.specs.lines.Text.{numeral, spaced, refusedText, countText, entryText, entryAt, entriesText, brokenText};
+ghost use Rattle.tie_rules.specs.Faults.{entrySize};
+ghost use Rattle.crew_answer.specs.lines.Text.{numeral, spaced, refusedText, countText, entryText, entryAt, entriesText, most, brokenText, longestEntry, longest};
 
 // The most entries that are told.
 pub const MOST: usize = 4000;
 
-// The numbers of an entry: card, column, kind.
-pub const ENTRY: usize = 3;
+// No line of an entry is longer: four numbers of ten digits, each with a byte behind it.
+const LONGEST_ENTRY: usize = 44;
 
 // No answer is longer: a line that begins with broken, and that many entries.
-pub const LONGEST: usize = 132028;
+pub const LONGEST: usize = 28 + MOST * LONGEST_ENTRY;
 
 const SPACE: u8 = 32;
 
@@ -83,40 +85,42 @@ fn wide(n: u32) -> u64
 }
 
 // Puts the line of an entry.
-fn push_line(out: &mut [u8], at: usize, card: u64, column: u64, kind: u64) -> usize
+fn push_line(out: &mut [u8], at: usize, card: u64, column: u64, kind: u64, vessel: u64) -> usize
     requires { ⌜ at < 900000 ⌝ }
-    requires { ⌜ (card < 10000000000) × (column < 10000000000) × (kind < 10000000000) ⌝ }
-    ensures out { λ _. ⌜ now (out .exit) ≡ sets (now (out .entry)) at (entryText card column kind) ⌝ }
-    ensures next { λ r. ⌜ r ≡ at + length (entryText card column kind) ⌝ }
-    ensures within { λ r. ⌜ r ≤ at + 33 ⌝ }
+    requires { ⌜ (card < 10000000000) × (column < 10000000000) × (kind < 10000000000) × (vessel < 10000000000) ⌝ }
+    ensures out { λ _. ⌜ now (out .exit) ≡ sets (now (out .entry)) at (entryText card column kind vessel) ⌝ }
+    ensures next { λ r. ⌜ r ≡ at + length (entryText card column kind vessel) ⌝ }
+    ensures within { λ r. ⌜ r ≤ at + longestEntry ⌝ }
 {
     let first = push_number(out, at, card);
     let second = push_spaced(out, first, column);
     let third = push_spaced(out, second, kind);
-    push(out, third, NEWLINE)
+    let fourth = push_spaced(out, third, vessel);
+    push(out, fourth, NEWLINE)
 }
 
 // Puts the entry with a number, from 0, of a list.
 fn push_entry(out: &mut [u8], at: usize, list: &[u32], i: usize) -> usize
     requires { ⌜ at < 900000 ⌝ }
-    requires { ⌜ 3 * i + 3 ≤ length (now list) ⌝ }
+    requires { ⌜ entrySize * i + entrySize ≤ length (now list) ⌝ }
     ensures out { λ _. ⌜ now (out .exit) ≡ sets (now (out .entry)) at (entryAt (now (list .entry)) i) ⌝ }
     ensures next { λ r. ⌜ r ≡ at + length (entryAt (now (list .entry)) i) ⌝ }
-    ensures within { λ r. ⌜ r ≤ at + 33 ⌝ }
+    ensures within { λ r. ⌜ r ≤ at + longestEntry ⌝ }
 {
     let from = ENTRY * i;
     let card = wide(list[from]);
     let column = wide(list[from + 1]);
     let kind = wide(list[from + 2]);
-    push_line(out, at, card, column, kind)
+    let vessel = wide(list[from + 3]);
+    push_line(out, at, card, column, kind, vessel)
 }
 
 // Puts the first k entries.
 fn push_entries(out: &mut [u8], at: usize, list: &[u32], k: usize) -> usize
-    requires { ⌜ (at ≤ 28) × (k ≤ 4000) × (3 * k ≤ length (now list)) ⌝ }
+    requires { ⌜ (at ≤ 28) × (k ≤ most) × (entrySize * k ≤ length (now list)) ⌝ }
     ensures out { λ _. ⌜ now (out .exit) ≡ sets (now (out .entry)) at (entriesText (now (list .entry)) k) ⌝ }
     ensures next { λ r. ⌜ r ≡ at + length (entriesText (now (list .entry)) k) ⌝ }
-    ensures within { λ r. ⌜ r ≤ 132028 ⌝ }
+    ensures within { λ r. ⌜ r ≤ longest ⌝ }
 {
     let mut end = at;
     let mut i = 0;
@@ -165,7 +169,7 @@ pub fn spell_refused(out: &mut [u8], number: usize, card: usize, column: usize) 
 pub fn spell_broken(out: &mut [u8], n: usize, list: &[u32]) -> usize
     ensures bytes { λ _. ⌜ now (out .exit) ≡ laid 1 (now (out .entry)) (brokenText n (now (list .entry))) ⌝ }
     ensures size { λ r. ⌜ r ≡ length (brokenText n (now (list .entry))) ⌝ }
-    ensures within { λ r. ⌜ r ≤ 132028 ⌝ }
+    ensures within { λ r. ⌜ r ≤ longest ⌝ }
 {
     let counted = push_count(out, n);
     let k = least(least(n, MOST), list.len() / ENTRY);

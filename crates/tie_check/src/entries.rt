@@ -6,7 +6,11 @@ ghost use Prim.Native.Nat.{_+_, _*_, _≤_};
 ghost use lib.ListN.{length};
 ghost use Rattle.base_lists.specs.Count.{bit};
 ghost use Rattle.base_lists.specs.Laid.{stored};
+ghost use Rattle.tie_rules.specs.Faults.{kinds, entrySize};
 ghost use Rattle.tie_check.specs.packed.Stored.{storedAll, entriesFor};
+
+// How many numbers an entry has: card, column, kind, vessel.
+pub const ENTRY: usize = 4;
 
 // Which kinds of fault a column has.
 pub struct Broken {
@@ -18,43 +22,59 @@ pub struct Broken {
 }
 
 // An entry, where it fits whole.
-fn put(list: &mut [u32], at: usize, card: u32, column: u32, kind: u32)
-    requires { ⌜ at ≤ 1200000 ⌝ }
-    ensures { λ _. ⌜ now (list .exit) ≡ stored (now (list .entry)) at (card ∷ column ∷ kind ∷ []) ⌝ }
+fn put(list: &mut [u32], at: usize, card: u32, column: u32, kind: u32, vessel: u32)
+    requires { ⌜ at ≤ 1600000 ⌝ }
+    ensures { λ _. ⌜ now (list .exit) ≡ stored (now (list .entry)) at (card ∷ column ∷ kind ∷ vessel ∷ []) ⌝ }
 {
-    if list.len() < at + 3 {
+    if list.len() < at + ENTRY {
         return;
     }
     list[at] = card;
     list[at + 1] = column;
     list[at + 2] = kind;
+    list[at + 3] = vessel;
 }
 
 // The next entry, where there is a fault.
-fn put_if(list: &mut [u32], found: usize, fault: bool, card: u32, column: u32, kind: u32) -> usize
+fn put_if(
+    list: &mut [u32],
+    found: usize,
+    fault: bool,
+    card: u32,
+    column: u32,
+    kind: u32,
+    vessel: u32,
+) -> usize
     requires { ⌜ found ≤ 400000 ⌝ }
     ensures list { λ _. ⌜ now (list .exit)
-        ≡ cond fault (stored (now (list .entry)) (3 * found) (card ∷ column ∷ kind ∷ [])) (now (list .entry)) ⌝ }
+        ≡ cond fault (stored (now (list .entry)) (entrySize * found) (card ∷ column ∷ kind ∷ vessel ∷ [])) (now (list .entry)) ⌝ }
     ensures number { λ r. ⌜ r ≡ found + bit fault ⌝ }
     ensures few { λ r. ⌜ r ≤ found + 1 ⌝ }
 {
     if fault {
-        put(list, 3 * found, card, column, kind);
+        put(list, ENTRY * found, card, column, kind, vessel);
         return found + 1;
     }
     found
 }
 
 // The entries of a column, kind by kind.
-pub fn put_all(list: &mut [u32], found: usize, broken: Broken, card: u32, column: u32) -> usize
+pub fn put_all(
+    list: &mut [u32],
+    found: usize,
+    broken: Broken,
+    card: u32,
+    column: u32,
+    vessel: u32,
+) -> usize
     requires { ⌜ found ≤ 300000 ⌝ }
-    ensures list { λ _. ⌜ now (list .exit) ≡ storedAll (now (list .entry)) found (entriesFor broken card column) ⌝ }
-    ensures number { λ r. ⌜ r ≡ found + length (entriesFor broken card column) ⌝ }
-    ensures few { λ r. ⌜ r ≤ found + 5 ⌝ }
+    ensures list { λ _. ⌜ now (list .exit) ≡ storedAll (now (list .entry)) found (entriesFor broken card column vessel) ⌝ }
+    ensures number { λ r. ⌜ r ≡ found + length (entriesFor broken card column vessel) ⌝ }
+    ensures few { λ r. ⌜ r ≤ found + kinds ⌝ }
 {
-    let a = put_if(list, found, broken.undefined, card, column, 1);
-    let b = put_if(list, a, broken.redefined, card, column, 2);
-    let c = put_if(list, b, broken.ambiguous, card, column, 3);
-    let d = put_if(list, c, broken.contradicted, card, column, 4);
-    put_if(list, d, broken.miscounted, card, column, 5)
+    let a = put_if(list, found, broken.undefined, card, column, 1, vessel);
+    let b = put_if(list, a, broken.redefined, card, column, 2, vessel);
+    let c = put_if(list, b, broken.ambiguous, card, column, 3, vessel);
+    let d = put_if(list, c, broken.contradicted, card, column, 4, vessel);
+    put_if(list, d, broken.miscounted, card, column, 5, vessel)
 }

@@ -24,7 +24,7 @@ pub enum Ties {
 pub fn check(header: &[u8], list: &mut [u32]) -> Ties
     ensures answer { λ r. ⌜ r ≡ answerFor (refusalOf (now (header .entry))) (length (faults (now (header .entry)))) ⌝ }
     ensures list { λ _. ⌜ now (list .exit)
-        ≡ listFor (refusalOf (now (header .entry))) (now (list .entry)) (entries (faults (now (header .entry)))) ⌝ }
+        ≡ listFor (refusalOf (now (header .entry))) (now (list .entry)) (entries (now (header .entry))) ⌝ }
 {
     let checked = header_check::check(header);
     match checked {

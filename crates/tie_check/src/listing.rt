@@ -16,7 +16,7 @@ ghost use mathlib.Core.Path.{_≡_};
 ghost use Prim.Native.Nat.{_+_, _*_, _<_, _≤_};
 ghost use lib.ListN.{length};
 ghost use Rattle.base_lists.specs.Laid.{laid};
-ghost use Rattle.tie_rules.specs.Faults.{faults, entries};
+ghost use Rattle.tie_rules.specs.Faults.{kinds, faults, entrySize, entries};
 ghost use Rattle.header_check.specs.forms.Cards.{cardsIn};
 ghost use Rattle.header_check.specs.Refusing.{refusalOf};
 ghost use Rattle.tie_check.specs.packed.Noted.{Noted};
@@ -40,11 +40,11 @@ fn list_card(
     requires { ⌜ Noted (now header) (cardsIn (now header)) (now layouts) ⌝ }
     requires { ⌜ (now store ≡ gathered (now header) .keys) × (now links ≡ gathered (now header) .links) ⌝ }
     requires { ⌜ totals ≡ totalsOf (now header) ⌝ }
-    requires { ⌜ (place < cardsIn (now header)) × (found ≤ 25 * place) ⌝ }
+    requires { ⌜ (place < cardsIn (now header)) × (found ≤ 5 * kinds * place) ⌝ }
     ensures list { λ _. ⌜ now (list .exit)
         ≡ storedAll (now (list .entry)) found (cardEntries (now (header .entry)) place) ⌝ }
     ensures number { λ r. ⌜ r ≡ found + length (cardEntries (now (header .entry)) place) ⌝ }
-    ensures few { λ r. ⌜ r ≤ found + 25 ⌝ }
+    ensures few { λ r. ⌜ r ≤ found + 5 * kinds ⌝ }
 {
     let from = place * CARD;
     let card = &header[from..from + CARD];
@@ -64,6 +64,7 @@ fn list_card(
             broken,
             (place + 1) as u32,
             keys::column_of(row) as u32,
+            vessel as u32,
         );
         slot += 1;
     }
@@ -83,7 +84,7 @@ fn list_cards(
     requires { ⌜ Noted (now header) (cardsIn (now header)) (now layouts) ⌝ }
     requires { ⌜ (now store ≡ gathered (now header) .keys) × (now links ≡ gathered (now header) .links) ⌝ }
     requires { ⌜ totals ≡ totalsOf (now header) ⌝ }
-    ensures list { λ _. ⌜ now (list .exit) ≡ laid 3 (now (list .entry)) (entries (faults (now (header .entry)))) ⌝ }
+    ensures list { λ _. ⌜ now (list .exit) ≡ laid entrySize (now (list .entry)) (entries (now (header .entry))) ⌝ }
     ensures number { λ r. ⌜ r ≡ length (faults (now (header .entry))) ⌝ }
 {
     let count = header.len() / CARD;
@@ -99,7 +100,7 @@ fn list_cards(
 // The faults of a header that was accepted.
 pub fn list_faults(header: &[u8], list: &mut [u32]) -> usize
     requires { ⌜ refusalOf (now header) ≡ Checked.Accepted ⌝ }
-    ensures list { λ _. ⌜ now (list .exit) ≡ laid 3 (now (list .entry)) (entries (faults (now (header .entry)))) ⌝ }
+    ensures list { λ _. ⌜ now (list .exit) ≡ laid entrySize (now (list .entry)) (entries (now (header .entry))) ⌝ }
     ensures number { λ r. ⌜ r ≡ length (faults (now (header .entry))) ⌝ }
 {
     let mut layouts = [0usize; CARDS];

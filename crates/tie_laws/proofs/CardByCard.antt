@@ -10,13 +10,13 @@ use Rattle.base_lists.specs.Parts.{keep, kept, upTo}
 use Rattle.base_lists.proofs.Keeping.{kept-append, kept-map, kept-same, out-of-kept, out-of-upTo}
 use Rattle.base_lists.proofs.Entries.{entries-more}
 use Rattle.header_check.specs.forms.Cards.{cardAt, cardsIn, layoutOf}
-use Rattle.tie_rules.specs.Faults.{broken, triples, brokenAt, entryOf, faults}
+use Rattle.tie_rules.specs.Faults.{kinds, broken, onCard, triples, brokenAt, faults, entryFor, entryOf}
 use Rattle.tie_laws.proofs.Sites.{Within, isSite, at-site}
 use Rattle.tie_laws.proofs.Complete.{listOf}
 
 -- the sites of a layout, numbered from 0: column, then kind
 unfoldable pub sitesOf : ℕ → List ℕ
-sitesOf k = kept (λ i. isSite k (i / 5 + 1) (i % 5 + 1)) (upTo 400)
+sitesOf k = kept (λ i. isSite k (i / kinds + 1) (i % kinds + 1)) (upTo onCard)
 
 kept-within {ℓ} : {A : Type ℓ} (q r : A → Bool) → ((a : A) → Within (q a) (r a)) → (l : List A) → kept q (kept r l) ≡ kept q l
 unfolding kept
@@ -63,52 +63,52 @@ map-same f g (x ∷ l) h = rw (h x (List·Memᴰ·head refl), map-same f g l (λ
 
 -- a fault on the card with a number, from 0, at a site of it
 abbrev pub brokenSite : List ℕ → ℕ → ℕ → Bool
-brokenSite h c i = broken h c (i / 5 + 1) (i % 5 + 1)
+brokenSite h c i = broken h c (i / kinds + 1) (i % kinds + 1)
 
 -- its entry
-abbrev pub siteEntry : ℕ → ℕ → List ℕ
-siteEntry c i = (c + 1) ∷ (i / 5 + 1) ∷ (i % 5 + 1) ∷ []
+abbrev pub siteEntry : List ℕ → ℕ → ℕ → List ℕ
+siteEntry h c i = entryFor h c (i / kinds + 1) (i % kinds + 1)
 
 -- the entries of a card, from its sites only
 unfoldable pub entriesOn : List ℕ → ℕ → List (List ℕ)
-entriesOn h c = map (siteEntry c) (kept (brokenSite h c) (sitesOf (layoutOf (cardAt h c))))
+entriesOn h c = map (siteEntry h c) (kept (brokenSite h c) (sitesOf (layoutOf (cardAt h c))))
 
 module _ (h : List ℕ) where
-  same-test : (c i : ℕ) → i < 400 → brokenAt h (400 * c + i) ≡ brokenSite h c i
+  same-test : (c i : ℕ) → i < onCard → brokenAt h (onCard * c + i) ≡ brokenSite h c i
   unfolding brokenAt
   same-test c i l =
-      let a : (400 * c + i) / 400 ≡ c = omega arith in
-      let b : (400 * c + i) / 5 % 80 ≡ i / 5 = omega arith in
-      let d : (400 * c + i) % 5 ≡ i % 5 = omega arith in
+      let a : (onCard * c + i) / onCard ≡ c = omega arith in
+      let b : (onCard * c + i) / kinds % 80 ≡ i / kinds = omega arith in
+      let d : (onCard * c + i) % kinds ≡ i % kinds = omega arith in
       rw (a, b, d)
 
-  same-entry : (c i : ℕ) → i < 400 → entryOf (400 * c + i) ≡ siteEntry c i
+  same-entry : (c i : ℕ) → i < onCard → entryOf h (onCard * c + i) ≡ siteEntry h c i
   unfolding entryOf
   same-entry c i l =
-      let a : (400 * c + i) / 400 ≡ c = omega arith in
-      let b : (400 * c + i) / 5 % 80 ≡ i / 5 = omega arith in
-      let d : (400 * c + i) % 5 ≡ i % 5 = omega arith in
+      let a : (onCard * c + i) / onCard ≡ c = omega arith in
+      let b : (onCard * c + i) / kinds % 80 ≡ i / kinds = omega arith in
+      let d : (onCard * c + i) % kinds ≡ i % kinds = omega arith in
       rw (a, b, d)
 
-  at-sites : (c : ℕ) → kept (brokenSite h c) (sitesOf (layoutOf (cardAt h c))) ≡ kept (brokenSite h c) (upTo 400)
+  at-sites : (c : ℕ) → kept (brokenSite h c) (sitesOf (layoutOf (cardAt h c))) ≡ kept (brokenSite h c) (upTo onCard)
   unfolding sitesOf broken
-  at-sites c = kept-within (brokenSite h c) (λ i. isSite (layoutOf (cardAt h c)) (i / 5 + 1) (i % 5 + 1))
-      (λ i. at-site h (cardAt h c) (i / 5 + 1) (i % 5 + 1)) (upTo 400)
+  at-sites c = kept-within (brokenSite h c) (λ i. isSite (layoutOf (cardAt h c)) (i / kinds + 1) (i % kinds + 1))
+      (λ i. at-site h (cardAt h c) (i / kinds + 1) (i % kinds + 1)) (upTo onCard)
 
-  on-card : (c : ℕ) → map entryOf (map (λ i. 400 * c + i) (kept (λ i. brokenAt h (400 * c + i)) (upTo 400))) ≡ entriesOn h c
+  on-card : (c : ℕ) → map (entryOf h) (map (λ i. onCard * c + i) (kept (λ i. brokenAt h (onCard * c + i)) (upTo onCard))) ≡ entriesOn h c
   unfolding entriesOn
   on-card c =
-      ap (λ l. map entryOf (map (λ i. 400 * c + i) l))
-      (kept-same (λ i. brokenAt h (400 * c + i)) (brokenSite h c) (upTo 400) (λ i m. same-test c i (out-of-upTo 400 i m)))
-      ∙ map-map entryOf (λ i. 400 * c + i) (kept (brokenSite h c) (upTo 400))
-      ∙ map-same (λ i. entryOf (400 * c + i)) (siteEntry c) (kept (brokenSite h c) (upTo 400))
-      (λ i m. same-entry c i (out-of-upTo 400 i (out-of-kept (brokenSite h c) (upTo 400) m .0)))
-      ∙ ap (map (siteEntry c)) (sym (at-sites c))
+      ap (λ l. map (entryOf h) (map (λ i. onCard * c + i) l))
+      (kept-same (λ i. brokenAt h (onCard * c + i)) (brokenSite h c) (upTo onCard) (λ i m. same-test c i (out-of-upTo onCard i m)))
+      ∙ map-map (entryOf h) (λ i. onCard * c + i) (kept (brokenSite h c) (upTo onCard))
+      ∙ map-same (λ i. entryOf h (onCard * c + i)) (siteEntry h c) (kept (brokenSite h c) (upTo onCard))
+      (λ i m. same-entry c i (out-of-upTo onCard i (out-of-kept (brokenSite h c) (upTo onCard) m .0)))
+      ∙ ap (map (siteEntry h c)) (sym (at-sites c))
 
   -- the list is the entries of one card after the other, each from its sites only
   pub card-by-card : listOf h ≡ flatMap (entriesOn h) (upTo (cardsIn h))
   unfolding faults triples
   card-by-card =
-      ap (map entryOf) (kept-runs (brokenAt h) 400 (cardsIn h))
-      ∙ map-flatMap entryOf (λ c. map (λ i. 400 * c + i) (kept (λ i. brokenAt h (400 * c + i)) (upTo 400))) (upTo (cardsIn h))
+      ap (map (entryOf h)) (kept-runs (brokenAt h) onCard (cardsIn h))
+      ∙ map-flatMap (entryOf h) (λ c. map (λ i. onCard * c + i) (kept (λ i. brokenAt h (onCard * c + i)) (upTo onCard))) (upTo (cardsIn h))
       ∙ flatMap-same _ (entriesOn h) (upTo (cardsIn h)) on-card

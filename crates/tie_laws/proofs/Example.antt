@@ -40,6 +40,7 @@ unfolding count first firstFrom alike part blanks unpadded leading behind valueF
     placedVerdict endVerdict verdictAt offends answerFor answerAt cardsAnswer refusalOf example
 accepted = refl
 
--- card, column, kind: node 214 twice, streamer 1 of another vessel, and a compass that stands nowhere
-pub worked : listOf example ≡ (11 ∷ 11 ∷ 2 ∷ []) ∷ (11 ∷ 36 ∷ 2 ∷ []) ∷ (12 ∷ 7 ∷ 4 ∷ []) ∷ (13 ∷ 7 ∷ 1 ∷ []) ∷ []
+-- card, column, kind, vessel: node 214 twice, streamer 1 of another vessel, and a compass that stands nowhere
+pub worked : listOf example
+    ≡ (11 ∷ 11 ∷ 2 ∷ 1 ∷ []) ∷ (11 ∷ 36 ∷ 2 ∷ 1 ∷ []) ∷ (12 ∷ 7 ∷ 4 ∷ 2 ∷ []) ∷ (13 ∷ 7 ∷ 1 ∷ 1 ∷ []) ∷ []
 worked = by-cards

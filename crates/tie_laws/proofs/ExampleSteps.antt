@@ -1,5 +1,5 @@
 -- The working of the example: what it defines, and the faults of each card from the sites of its layout.
-use Prim.Native.Nat.{ℕ, _+_, _/_, _%_}
+use Prim.Native.Nat.{ℕ, _+_, _*_, _-_, _/_, _%_}
 use mathlib.Core.Path.{_≡_, refl, ap, ap₂, _∙_}
 use mathlib.Core.Bool.{_&&_}
 use mathlib.Core.List.{List, [], _∷_, _++_, map, flatMap}
@@ -20,10 +20,10 @@ use Rattle.tie_rules.specs.Ties.{ties, lineIn, lineFor, hasVessel, statesOwn, s
 use Rattle.tie_rules.specs.Keys.{isNone, between, wholeKey, wholeIn, paired, keyIn, classAt, keyAt, holdsKey, vesselOf, contradict}
 use Rattle.tie_rules.specs.Definitions.{places, cardOf, columnOf, definitionsOf, contradictionsOf}
 use Rattle.tie_rules.specs.Faults.{definitionsAt, undefined, redefined, ambiguous, contradicted, differs, miscounted}
-use Rattle.tie_rules.specs.Faults.{brokenOn, broken}
+use Rattle.tie_rules.specs.Faults.{kinds, brokenOn, broken}
 use Rattle.tie_laws.proofs.Complete.{listOf}
 use Rattle.tie_laws.proofs.Sites.{hasLine, isSite}
-use Rattle.tie_laws.proofs.CardByCard.{siteEntry, sitesOf, entriesOn, card-by-card}
+use Rattle.tie_laws.proofs.CardByCard.{sitesOf, entriesOn, card-by-card}
 use Rattle.tie_laws.proofs.Collected.{Definition, collected, isOf, definitions-collected, contradictions-collected}
 use Rattle.tie_laws.proofs.ExampleCards.{lineCard, streamerCard, nodeCard, otherNodeCard, compassCard, example}
 
@@ -105,21 +105,21 @@ five-there : map (cardAt example) (8 ∷ 9 ∷ 10 ∷ 11 ∷ 12 ∷ []) ≡ five
 unfolding part cardAt example
 five-there = refl
 
--- column 30 with kinds 2 and 4, column 79 with 5
+-- the number of a site: its column, then its kind
+abbrev site : ℕ → ℕ → ℕ
+site column kind = kinds * (column - 1) + (kind - 1)
+
 abbrev lineSites : List ℕ
-lineSites = 146 ∷ 148 ∷ 394 ∷ []
+lineSites = site 30 2 ∷ site 30 4 ∷ site 79 5 ∷ []
 
--- column 7 with 2
 abbrev streamerSites : List ℕ
-streamerSites = 31 ∷ []
+streamerSites = site 7 2 ∷ []
 
--- column 7 with 1, 3 and 4; columns 11, 16, 36 and 41 with 2
 abbrev nodeSites : List ℕ
-nodeSites = 30 ∷ 32 ∷ 33 ∷ 51 ∷ 76 ∷ 176 ∷ 201 ∷ []
+nodeSites = site 7 1 ∷ site 7 3 ∷ site 7 4 ∷ site 11 2 ∷ site 16 2 ∷ site 36 2 ∷ site 41 2 ∷ []
 
--- column 7 with 1, 3 and 4
 abbrev compassSites : List ℕ
-compassSites = 30 ∷ 32 ∷ 33 ∷ []
+compassSites = site 7 1 ∷ site 7 3 ∷ site 7 4 ∷ []
 
 abbrev fiveSites : List (List ℕ)
 fiveSites = lineSites ∷ streamerSites ∷ nodeSites ∷ nodeSites ∷ compassSites ∷ []
@@ -131,16 +131,17 @@ their-sites = refl
 
 -- the entries of a card by its bytes, from some sites
 unfoldable entriesFrom : ℕ → List ℕ → List ℕ → List (List ℕ)
-entriesFrom c s sites = map (siteEntry c) (kept (λ i. brokenOn example s (i / 5 + 1) (i % 5 + 1)) sites)
+entriesFrom c s sites =
+    map (λ i. (c + 1) ∷ (i / kinds + 1) ∷ (i % kinds + 1) ∷ vesselOf s ∷ []) (kept (λ i. brokenOn example s (i / kinds + 1) (i % kinds + 1)) sites)
 
 on-card : (c : ℕ) (s sites : List ℕ) → cardAt example c ≡ s → sitesOf (layoutOf s) ≡ sites
     → entriesOn example c ≡ entriesFrom c s sites
 unfolding entriesOn broken entriesFrom
 on-card c s sites e q =
-    ap (λ r. map (siteEntry c) (kept (λ i. brokenOn example r (i / 5 + 1) (i % 5 + 1)) (sitesOf (layoutOf r)))) e ∙ rw q
+    ap (λ r. entriesFrom c r (sitesOf (layoutOf r))) e ∙ ap (entriesFrom c s) q
 
 abbrev four : List (List ℕ)
-four = (11 ∷ 11 ∷ 2 ∷ []) ∷ (11 ∷ 36 ∷ 2 ∷ []) ∷ (12 ∷ 7 ∷ 4 ∷ []) ∷ (13 ∷ 7 ∷ 1 ∷ []) ∷ []
+four = (11 ∷ 11 ∷ 2 ∷ 1 ∷ []) ∷ (11 ∷ 36 ∷ 2 ∷ 1 ∷ []) ∷ (12 ∷ 7 ∷ 4 ∷ 2 ∷ []) ∷ (13 ∷ 7 ∷ 1 ∷ 1 ∷ []) ∷ []
 
 their-entries :
     entriesFrom 8 lineCard lineSites

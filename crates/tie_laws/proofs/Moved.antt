@@ -4,7 +4,7 @@ use native.Mathlib.Omega.{arith}
 use mathlib.Core.Path.{_≡_, sym, ap, ap₂, _∙_}
 use mathlib.Core.Logic.{_↔_}
 use mathlib.Core.Bool.{Bool, _&&_}
-use mathlib.Core.List.{List, [], _∷_}
+use mathlib.Core.List.{List, [], _∷_, List·Memᴰ}
 use lib.Dec.{eqb}
 use lib.ListN.{length, take}
 use Rattle.base_lists.specs.Count.{count, carried, Rearranged}
@@ -16,8 +16,8 @@ use Rattle.format_layout.specs.Names.{H0101}
 use Rattle.tie_rules.specs.Keys.{classAt, keyAt, holdsKey, definesKey, vesselOf, contradict, wholeIn}
 use Rattle.tie_rules.specs.Definitions.{places, cardOf, columnOf, definedAt, definitionsOf, placeOf}
 use Rattle.tie_rules.specs.Definitions.{contradictionsOf, waypointAt, waypointsOf, pointsOf}
-use Rattle.tie_rules.specs.Faults.{definitionsAt, undefined, redefined, ambiguous, contradicted, miscounted, brokenOn, broken, triples, brokenAt}
-use Rattle.tie_laws.proofs.Complete.{listOf, Fault, how-many}
+use Rattle.tie_rules.specs.Faults.{definitionsAt, undefined, redefined, ambiguous, contradicted, miscounted, kinds, brokenOn, broken, onCard, triples, brokenAt}
+use Rattle.tie_laws.proofs.Complete.{listOf, Fault, listed-exactly, how-many}
 use Rattle.tie_laws.proofs.Places.{one-exactly, place-named, place-only, no-place-exactly}
 
 -- h′ is h with its cards in another order
@@ -81,8 +81,9 @@ module _ (h h′ : List ℕ) (m : Reordered h h′) where
   unfolding broken
   broken-moved c column kind l = rw (m .same-card c l) (broken-on-moved (cardAt h c) column kind)
 
-  pub fault-moved : (c column kind : ℕ) → c < cardsIn h → Fault h (c + 1) column kind ↔ Fault h′ (m .order .to c + 1) column kind
-  fault-moved c column kind l = (
+  pub fault-moved : (c column kind vessel : ℕ) → c < cardsIn h
+      → Fault h (c + 1) column kind vessel ↔ Fault h′ (m .order .to c + 1) column kind vessel
+  fault-moved c column kind vessel l = (
     λ f. record {
       first-card = omega arith;
       last-card = omega (arith, same-count, m .order .to-below c l);
@@ -91,6 +92,7 @@ module _ (h h′ : List ℕ) (m : Reordered h h′) where
       first-kind = f .first-kind;
       last-kind = f .last-kind;
       is-broken = rw (back (m .order .to c)) (broken-moved c column kind l ∙ rw (back c) at (f .is-broken));
+      is-vessel = rw (back (m .order .to c), m .same-card c l) (rw (back c) at (f .is-vessel));
     },
     λ f. record {
       first-card = omega arith;
@@ -100,11 +102,22 @@ module _ (h h′ : List ℕ) (m : Reordered h h′) where
       first-kind = f .first-kind;
       last-kind = f .last-kind;
       is-broken = rw (back c) (sym (broken-moved c column kind l) ∙ rw (back (m .order .to c)) at (f .is-broken));
+      is-vessel = rw (back c) (rw (back (m .order .to c), m .same-card c l) at (f .is-vessel));
     },
   )
     where
       back : (n : ℕ) → n + 1 - 1 ≡ n
       back n = omega arith
+
+  -- so an entry of the list keeps its column, kind and vessel
+  pub entry-moved : (c column kind vessel : ℕ) → c < cardsIn h
+      → List·Memᴰ ((c + 1) ∷ column ∷ kind ∷ vessel ∷ []) (listOf h)
+      ↔ List·Memᴰ ((m .order .to c + 1) ∷ column ∷ kind ∷ vessel ∷ []) (listOf h′)
+  entry-moved c column kind vessel l =
+      let f = fault-moved c column kind vessel l in
+      let a = listed-exactly h (c + 1) column kind vessel in
+      let b = listed-exactly h′ (m .order .to c + 1) column kind vessel in
+      (λ x. b .1 (f .0 (a .0 x)), λ x. a .1 (f .1 (b .0 x)))
 
   -- and the list as many entries
   pub as-many-faults : length (listOf h′) ≡ length (listOf h)
@@ -112,13 +125,13 @@ module _ (h h′ : List ℕ) (m : Reordered h h′) where
   as-many-faults = how-many h′ ∙ counted ∙ sym (how-many h)
     where
       counted : count (brokenAt h′) (triples h′) ≡ count (brokenAt h) (triples h)
-      counted = rw same-count (count-moved (spread 400 (omega arith) (m .order)) (brokenAt h) (brokenAt h′)
+      counted = rw same-count (count-moved (spread onCard (omega arith) (m .order)) (brokenAt h) (brokenAt h′)
           (λ t l.
-          let to : ℕ = m .order .to (t / 400) in
-          let a : (400 * to + t % 400) / 400 ≡ to = omega arith in
-          let b : (400 * to + t % 400) / 5 % 80 ≡ t / 5 % 80 = omega arith in
-          let d : (400 * to + t % 400) % 5 ≡ t % 5 = omega arith in
-          rw (a, b, d) (broken-moved (t / 400) (t / 5 % 80 + 1) (t % 5 + 1) (omega arith))))
+          let to : ℕ = m .order .to (t / onCard) in
+          let a : (onCard * to + t % onCard) / onCard ≡ to = omega arith in
+          let b : (onCard * to + t % onCard) / kinds % 80 ≡ t / kinds % 80 = omega arith in
+          let d : (onCard * to + t % onCard) % kinds ≡ t % kinds = omega arith in
+          rw (a, b, d) (broken-moved (t / onCard) (t / kinds % 80 + 1) (t % kinds + 1) (omega arith))))
 
   -- the only definition of a key is found at its card's new place, and none where none was
   pub place-moved : (class : ℕ) (key : List ℕ) (c column : ℕ) → c < cardsIn h

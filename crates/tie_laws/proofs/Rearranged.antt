@@ -15,7 +15,8 @@ use Rattle.tie_laws.proofs.Moved.{Reordered, fault-moved, as-many-fault
 
 -- h′ has the faults of h, each on its card at the card's new place, and no more of them
 pub record Same-faults (h h′ : List ℕ) (to : ℕ → ℕ) : Type 0 where
-  pub on-cards : (c column kind : ℕ) → c < cardsIn h → Fault h (c + 1) column kind ↔ Fault h′ (to c + 1) column kind
+  pub on-cards : (c column kind vessel : ℕ) → c < cardsIn h
+      → Fault h (c + 1) column kind vessel ↔ Fault h′ (to c + 1) column kind vessel
   pub as-many : length (listOf h′) ≡ length (listOf h)
 
 same-faults : (h h′ : List ℕ) (r : Reordered h h′) → Same-faults h h′ (r .order .to)

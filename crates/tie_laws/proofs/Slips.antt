@@ -18,7 +18,7 @@ use Rattle.format_layout.specs.Table.{layouts, passedCodes}
 use Rattle.format_code.specs.Codes.{byteFits, fitsAt, fits, codes, placeIn, codeAt, codeOf}
 use Rattle.header_check.specs.forms.Cards.{cardAt, cardsIn, byteIn, layoutOf}
 use Rattle.tie_rules.specs.Ties.{Source, digit, whole, serial, waypoint, only, nothing, Role, defines, refers, Tie, ties, isFor, lineIn, lineFor}
-use Rattle.tie_rules.specs.Keys.{isNone, between, wholeKey, wholeIn, keyIn, classAt, keyAt, holdsKey, definesKey}
+use Rattle.tie_rules.specs.Keys.{isNone, between, wholeKey, wholeIn, keyIn, classAt, keyAt, holdsKey, definesKey, vesselOf}
 use Rattle.tie_rules.specs.Definitions.{placeOf}
 use Rattle.tie_laws.proofs.Tests.{both}
 use Rattle.tie_laws.proofs.Complete.{listOf, broken-listed}
@@ -96,6 +96,10 @@ module _ (s : List ℕ) (b : ℕ) where
     unfolding definesKey holdsKey
     vessel-not-counted class key column = rw (vessel-not-in-key defines column, same-class defines column)
 
+-- a place is listed as one whose key is defined elsewhere too
+abbrev pub ListedTwice : List ℕ → ℕ → ℕ → Type 0
+ListedTwice h card column = List·Memᴰ (card ∷ column ∷ 2 ∷ vesselOf (cardAt h (card - 1)) ∷ []) (listOf h)
+
 module _ (h : List ℕ) (class : ℕ) (key : List ℕ) where
   -- what a place defines is what its column says
   told : (s : List ℕ) (column : ℕ) → definesKey s class key column ≡ true
@@ -108,13 +112,13 @@ module _ (h : List ℕ) (class : ℕ) (key : List ℕ) where
 
   -- a place, its card counted from 0, that defines a key which is defined elsewhere too
   listed-there : (n column : ℕ) → n < cardsIn h → 1 ≤ column → column ≤ 80 → definesKey (cardAt h n) class key column ≡ true
-      → Elsewhere h class key (n + 1) column → List·Memᴰ ((n + 1) ∷ column ∷ 2 ∷ []) (listOf h)
+      → Elsewhere h class key (n + 1) column → List·Memᴰ ((n + 1) ∷ column ∷ 2 ∷ vesselOf (cardAt h n) ∷ []) (listOf h)
   listed-there n column l a b e x =
       let t = told (cardAt h n) column e in
-      broken-listed h n column 2 l .1 (both-listed h n column l a b (t .0) .1 (rw (t .1, t .2) x))
+      broken-listed h n column 2 _ l .1 (both-listed h n column l a b (t .0) .1 (rw (t .1, t .2) x), refl)
 
   listed-here : (card column c d : ℕ) → Defines h class key card column → Defines h class key c d → Differ c d card column
-      → List·Memᴰ (card ∷ column ∷ 2 ∷ []) (listOf h)
+      → ListedTwice h card column
   listed-here card column c d x y apart =
       let e : card - 1 + 1 ≡ card = omega (arith, x .first-card) in
       rw e at (listed-there (card - 1) column (omega (arith, x)) (x .first-column) (x .last-column) (x .defines-it)
@@ -122,7 +126,7 @@ module _ (h : List ℕ) (class : ℕ) (key : List ℕ) where
 
   -- of two equal definitions both are listed
   pub both-of-two : (card column c d : ℕ) → Defines h class key card column → Defines h class key c d → Differ c d card column
-      → List·Memᴰ (card ∷ column ∷ 2 ∷ []) (listOf h) × List·Memᴰ (c ∷ d ∷ 2 ∷ []) (listOf h)
+      → ListedTwice h card column × ListedTwice h c d
   both-of-two card column c d x y apart =
       (listed-here card column c d x y apart, listed-here c d card column y x (λ q. apart (sym (q .0), sym (q .1))))
 

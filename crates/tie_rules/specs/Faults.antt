@@ -1,6 +1,6 @@
 -- The five kinds of broken tie, and the list of all of them: by card, column, kind.
 use Prim.Native.Nat.{ℕ, _+_, _*_, _/_, _%_}
-use mathlib.Core.List.{List, [], _∷_, _++_}
+use mathlib.Core.List.{List, [], _∷_, flatMap}
 use mathlib.Core.Bool.{Bool, cond, _&&_, not}
 use lib.Dec.{eqb, ltb}
 use Rattle.base_lists.specs.Parts.{alike, kept, upTo}
@@ -61,22 +61,33 @@ brokenOn h s column kind =
 unfoldable pub broken : List ℕ → ℕ → ℕ → ℕ → Bool
 broken h card column kind = brokenOn h (cardAt h card) column kind
 
+-- the triples of a card: column, then kind
+abbrev pub onCard : ℕ
+onCard = kinds * 80
+
 -- all triples of a header in order, numbered from 0: card, from 0, then column, then kind
 unfoldable pub triples : List ℕ → ℕ
-triples h = kinds * 80 * cardsIn h
+triples h = onCard * cardsIn h
 
 unfoldable pub brokenAt : List ℕ → ℕ → Bool
-brokenAt h t = broken h (t / (kinds * 80)) (t / kinds % 80 + 1) (t % kinds + 1)
-
--- the entry of a triple: the card counted from 1, column, kind
-unfoldable pub entryOf : ℕ → List ℕ
-entryOf t = (t / (kinds * 80) + 1) ∷ (t / kinds % 80 + 1) ∷ (t % kinds + 1) ∷ []
+brokenAt h t = broken h (t / onCard) (t / kinds % 80 + 1) (t % kinds + 1)
 
 -- the numbers of the broken triples, in order
 unfoldable pub faults : List ℕ → List ℕ
 faults h = kept (brokenAt h) (upTo (triples h))
 
--- their entries, one after the other
+-- how many numbers an entry has
+abbrev pub entrySize : ℕ
+entrySize = 4
+
+-- the entry of a fault: the card counted from 1, column, kind, the vessel digit in the card's code
+abbrev pub entryFor : List ℕ → ℕ → ℕ → ℕ → List ℕ
+entryFor h card column kind = (card + 1) ∷ column ∷ kind ∷ vesselOf (cardAt h card) ∷ []
+
+-- the same of a triple
+unfoldable pub entryOf : List ℕ → ℕ → List ℕ
+entryOf h t = entryFor h (t / onCard) (t / kinds % 80 + 1) (t % kinds + 1)
+
+-- the entries of all faults, one after the other
 unfoldable pub entries : List ℕ → List ℕ
-entries [] = []
-entries (t ∷ ts) = entryOf t ++ entries ts
+entries h = flatMap (entryOf h) (faults h)

@@ -5,6 +5,7 @@ use Prim.Native.Char.{code}
 use mathlib.Core.List.{List, [], _∷_, _++_}
 use lib.ListN.{length, getD}
 use Rattle.base_digits.specs.digits.Digits.{digits, size}
+use Rattle.tie_rules.specs.Faults.{entrySize}
 
 -- the bytes of a word
 abbrev pub bytes : String → List ℕ
@@ -31,13 +32,17 @@ refusedText number card column = bytes "refused" ++ spaced number ++ spaced card
 unfoldable pub countText : ℕ → List ℕ
 countText n = bytes "broken" ++ spaced n ++ newline
 
--- an entry: card, column, kind
-unfoldable pub entryText : ℕ → ℕ → ℕ → List ℕ
-entryText card column kind = numeral card ++ spaced column ++ spaced kind ++ newline
+-- an entry: card, column, kind, vessel
+unfoldable pub entryText : ℕ → ℕ → ℕ → ℕ → List ℕ
+entryText card column kind vessel = numeral card ++ spaced column ++ spaced kind ++ spaced vessel ++ newline
 
--- the entry with a number, from 0, of a list with three numbers an entry
+-- a number of the entry with a number, both from 0, of a list of entries
+abbrev pub numberAt : List ℕ → ℕ → ℕ → ℕ
+numberAt l i j = getD l (entrySize * i + j) 0
+
+-- that entry
 unfoldable pub entryAt : List ℕ → ℕ → List ℕ
-entryAt l i = entryText (getD l (3 * i) 0) (getD l (3 * i + 1) 0) (getD l (3 * i + 2) 0)
+entryAt l i = entryText (numberAt l i 0) (numberAt l i 1) (numberAt l i 2) (numberAt l i 3)
 
 -- the first k of them
 unfoldable pub entriesText : List ℕ → ℕ → List ℕ
@@ -50,8 +55,15 @@ most = 4000
 
 -- how many entries are told of n: the list may have fewer
 unfoldable pub told : ℕ → List ℕ → ℕ
-told n l = min (min n most) (length l / 3)
+told n l = min (min n most) (length l / entrySize)
 
 -- n that are broken, and the first of their entries
 unfoldable pub brokenText : ℕ → List ℕ → List ℕ
 brokenText n l = countText n ++ entriesText l (told n l)
+
+-- no line of an entry is longer, with four numbers of ten digits; no answer is longer, with a number of twenty
+abbrev pub longestEntry : ℕ
+longestEntry = 44
+
+abbrev pub longest : ℕ
+longest = 28 + most * longestEntry

@@ -5,6 +5,7 @@ use mathlib.Core.Bool.{Bool, true, false}
 use mathlib.Core.List.{List, map}
 use Rattle.base_lists.specs.Parts.{keep, kept, upTo}
 use Rattle.header_check.specs.forms.Cards.{cardAt}
+use Rattle.tie_rules.specs.Keys.{vesselOf}
 use Rattle.tie_rules.specs.Faults.{brokenOn, broken}
 use Rattle.tie_check.specs.packed.Kinds.{brokenFor}
 use Rattle.tie_check.specs.packed.Stored.{entriesFor}
@@ -15,6 +16,6 @@ map-keep f true x l = refl
 map-keep f false x l = refl
 
 pub of-column : (h : List ℕ) (c column : ℕ)
-    → entriesFor (brokenFor h (cardAt h c) column) (c + 1) column ≡ columnEntries h c column
+    → entriesFor (brokenFor h (cardAt h c) column) (c + 1) column (vesselOf (cardAt h c)) ≡ columnEntries h c column
 unfolding entriesFor brokenFor columnEntries broken brokenOn kept upTo
 of-column h c column = sym (rw (map-keep, map-keep, map-keep, map-keep, map-keep))

@@ -19,12 +19,12 @@ use Rattle.tie_rules.proofs.columns.Defining.{Defining}
 use Rattle.tie_rules.proofs.columns.Tied.{Idle, idle, at-most-five}
 use Rattle.tie_check.proofs.gather.Slots.{kept-within}
 use Rattle.tie_rules.proofs.columns.Tied.{none-at-zero}
-use Rattle.tie_rules.specs.Faults.{redefined, brokenOn, broken, entryOf, faults, entries}
+use Rattle.tie_rules.specs.Faults.{kinds, redefined, brokenOn, broken, onCard, faults, entrySize, entryFor, entryOf, entries}
 use Rattle.tie_check.proofs.judging.Defining.{not-undefined, not-ambiguous, not-contradicted, not-miscounted}
 use Rattle.tie_laws.proofs.Sites.{isSite, at-site}
-use Rattle.tie_laws.proofs.Complete.{listOf}
+use Rattle.tie_laws.proofs.Complete.{listOf, entry-size}
 use Rattle.tie_laws.proofs.CardByCard.{sitesOf, kept-runs, brokenSite, siteEntry, entriesOn, card-by-card}
-use Rattle.tie_check.specs.packed.Stored.{joined, storedAll, Triples}
+use Rattle.tie_check.specs.packed.Stored.{joined, storedAll, Sized}
 use Rattle.base_lists.specs.Laid.{laid}
 use Rattle.tie_check.proofs.entries.Stored.{stored-laid}
 use Rattle.tie_check.specs.packed.Listed.{columnEntries, slotEntries, cardEntries, entriesTo}
@@ -115,8 +115,8 @@ module _ (h : List ℕ) (c : ℕ) where
   no-entries : (column : ℕ) → canTie (layoutOf (cardAt h c)) column ≡ false → columnEntries h c column ≡ []
   unfolding columnEntries broken kept
   no-entries column e =
-      ap (map (λ i. (c + 1) ∷ column ∷ (i + 1) ∷ []))
-      (none (λ i. brokenOn h (cardAt h c) column (i + 1)) (λ i. none-broken h (cardAt h c) column e (i + 1)) (upTo 5))
+      ap (map (λ i. entryFor h c column (i + 1)))
+      (none (λ i. brokenOn h (cardAt h c) column (i + 1)) (λ i. none-broken h (cardAt h c) column e (i + 1)) (upTo kinds))
     where
       none : (p : ℕ → Bool) → ((i : ℕ) → p i ≡ false) → (l : List ℕ) → kept p l ≡ []
       none p f [] = refl
@@ -127,34 +127,34 @@ module _ (h : List ℕ) (c : ℕ) where
   unfolding slotEntries
   no-slot slot e = rw e (no-entries 0 (none-at-zero (layoutOf (cardAt h c))))
 
-  at-sites : kept (brokenSite h c) (sitesOf (layoutOf (cardAt h c))) ≡ kept (brokenSite h c) (upTo 400)
+  at-sites : kept (brokenSite h c) (sitesOf (layoutOf (cardAt h c))) ≡ kept (brokenSite h c) (upTo onCard)
   unfolding sitesOf broken
-  at-sites = kept-within (brokenSite h c) (λ i. isSite (layoutOf (cardAt h c)) (i / 5 + 1) (i % 5 + 1)) (λ i e. not-there i e (brokenSite h c i) refl) (upTo 400)
+  at-sites = kept-within (brokenSite h c) (λ i. isSite (layoutOf (cardAt h c)) (i / kinds + 1) (i % kinds + 1)) (λ i e. not-there i e (brokenSite h c i) refl) (upTo onCard)
     where
-      not-there : (i : ℕ) → isSite (layoutOf (cardAt h c)) (i / 5 + 1) (i % 5 + 1) ≡ false → (b : Bool) → brokenSite h c i ≡ b
+      not-there : (i : ℕ) → isSite (layoutOf (cardAt h c)) (i / kinds + 1) (i % kinds + 1) ≡ false → (b : Bool) → brokenSite h c i ≡ b
           → brokenSite h c i ≡ false
-      not-there i e true q = absurd (false≢true (sym e ∙ at-site h (cardAt h c) (i / 5 + 1) (i % 5 + 1) q))
+      not-there i e true q = absurd (false≢true (sym e ∙ at-site h (cardAt h c) (i / kinds + 1) (i % kinds + 1) q))
       not-there i e false q = q
 
-  in-column : (j : ℕ) → map (siteEntry c) (map (λ i. 5 * j + i) (kept (λ i. brokenSite h c (5 * j + i)) (upTo 5))) ≡ columnEntries h c (j + 1)
+  in-column : (j : ℕ) → map (siteEntry h c) (map (λ i. kinds * j + i) (kept (λ i. brokenSite h c (kinds * j + i)) (upTo kinds))) ≡ columnEntries h c (j + 1)
   unfolding columnEntries
   in-column j =
-      map-map (siteEntry c) (λ i. 5 * j + i) (kept (λ i. brokenSite h c (5 * j + i)) (upTo 5))
-      ∙ ap (map (λ i. siteEntry c (5 * j + i)))
-      (kept-same (λ i. brokenSite h c (5 * j + i)) (λ i. broken h c (j + 1) (i + 1)) (upTo 5) (λ i m. same i (out-of-upTo 5 i m)))
-      ∙ map-same (λ i. siteEntry c (5 * j + i)) (λ i. (c + 1) ∷ (j + 1) ∷ (i + 1) ∷ []) (kept (λ i. broken h c (j + 1) (i + 1)) (upTo 5))
-      (λ i m. entry i (out-of-upTo 5 i (out-of-kept (λ i. broken h c (j + 1) (i + 1)) (upTo 5) m .0)))
+      map-map (siteEntry h c) (λ i. kinds * j + i) (kept (λ i. brokenSite h c (kinds * j + i)) (upTo kinds))
+      ∙ ap (map (λ i. siteEntry h c (kinds * j + i)))
+      (kept-same (λ i. brokenSite h c (kinds * j + i)) (λ i. broken h c (j + 1) (i + 1)) (upTo kinds) (λ i m. same i (out-of-upTo kinds i m)))
+      ∙ map-same (λ i. siteEntry h c (kinds * j + i)) (λ i. entryFor h c (j + 1) (i + 1)) (kept (λ i. broken h c (j + 1) (i + 1)) (upTo kinds))
+      (λ i m. entry i (out-of-upTo kinds i (out-of-kept (λ i. broken h c (j + 1) (i + 1)) (upTo kinds) m .0)))
     where
-      same : (i : ℕ) → i < 5 → brokenSite h c (5 * j + i) ≡ broken h c (j + 1) (i + 1)
+      same : (i : ℕ) → i < kinds → brokenSite h c (kinds * j + i) ≡ broken h c (j + 1) (i + 1)
       same i l =
-          let a : (5 * j + i) / 5 ≡ j = omega arith in
-          let b : (5 * j + i) % 5 ≡ i = omega arith in
+          let a : (kinds * j + i) / kinds ≡ j = omega arith in
+          let b : (kinds * j + i) % kinds ≡ i = omega arith in
           rw (a, b)
 
-      entry : (i : ℕ) → i < 5 → siteEntry c (5 * j + i) ≡ (c + 1) ∷ (j + 1) ∷ (i + 1) ∷ []
+      entry : (i : ℕ) → i < kinds → siteEntry h c (kinds * j + i) ≡ entryFor h c (j + 1) (i + 1)
       entry i l =
-          let a : (5 * j + i) / 5 ≡ j = omega arith in
-          let b : (5 * j + i) % 5 ≡ i = omega arith in
+          let a : (kinds * j + i) / kinds ≡ j = omega arith in
+          let b : (kinds * j + i) % kinds ≡ i = omega arith in
           rw (a, b)
 
   on-card : entriesOn h c ≡ cardEntries h c
@@ -163,17 +163,17 @@ module _ (h : List ℕ) (c : ℕ) where
       let k = layoutOf (cardAt h c) in
       let g = columnEntries h c in
       let z : g 0 ≡ [] = no-entries 0 (none-at-zero k) in
-      ap (map (siteEntry c)) (at-sites ∙ kept-runs (brokenSite h c) 5 80)
-      ∙ map-flatMap (siteEntry c) (λ j. map (λ i. 5 * j + i) (kept (λ i. brokenSite h c (5 * j + i)) (upTo 5))) (upTo 80)
+      ap (map (siteEntry h c)) (at-sites ∙ kept-runs (brokenSite h c) kinds 80)
+      ∙ map-flatMap (siteEntry h c) (λ j. map (λ i. kinds * j + i) (kept (λ i. brokenSite h c (kinds * j + i)) (upTo kinds))) (upTo 80)
       ∙ flatMap-same _ (λ j. g (j + 1)) (upTo 80) in-column
       ∙ sym (flatMap-shift g 80 ∙ rw z)
       ∙ sym (flatMap-kept g (canTie k) no-entries (upTo 81))
       ∙ flatMap-at g z (tieColumns k) 5 (at-most-five k)
 
-joined-map : (l : List ℕ) → joined (map entryOf l) ≡ entries l
-unfolding joined entries
-joined-map [] = refl
-joined-map (t ∷ l) = ap (λ r. entryOf t ++ r) (joined-map l)
+joined-map : (h l : List ℕ) → joined (map (entryOf h) l) ≡ flatMap (entryOf h) l
+unfolding joined flatMap
+joined-map h [] = refl
+joined-map h (t ∷ l) = ap (λ r. entryOf h t ++ r) (joined-map h l)
 
 module _ (h : List ℕ) where
   walked : listOf h ≡ entriesTo h (cardsIn h)
@@ -181,21 +181,22 @@ module _ (h : List ℕ) where
   walked = card-by-card h ∙ flatMap-same (entriesOn h) (cardEntries h) (upTo (cardsIn h)) (on-card h)
 
   -- the entries of all cards are those of the faults
-  pub all-entries : joined (entriesTo h (cardsIn h)) ≡ entries (faults h)
-  all-entries = ap joined (sym walked) ∙ joined-map (faults h)
+  pub all-entries : joined (entriesTo h (cardsIn h)) ≡ entries h
+  unfolding entries
+  all-entries = ap joined (sym walked) ∙ joined-map h (faults h)
 
   -- there are as many as faults
   pub all-found : length (entriesTo h (cardsIn h)) ≡ length (faults h)
-  all-found = ap length (sym walked) ∙ length-map (faults h) entryOf
+  all-found = ap length (sym walked) ∙ length-map (faults h) (entryOf h)
 
-triples : (l : List ℕ) → Triples (map entryOf l)
-unfolding entryOf
-triples [] = tt
-triples (t ∷ l) = (refl, triples l)
+sized : (h l : List ℕ) → Sized (map (entryOf h) l)
+sized h [] = tt
+sized h (t ∷ l) = (entry-size h t, sized h l)
 
 -- stored one after the other they are laid
-pub all-laid : (h l : List ℕ) → storedAll l 0 (entriesTo h (cardsIn h)) ≡ laid 3 l (entries (faults h))
+pub all-laid : (h l : List ℕ) → storedAll l 0 (entriesTo h (cardsIn h)) ≡ laid entrySize l (entries h)
+unfolding entries
 all-laid h l =
     ap (storedAll l 0) (sym (walked h))
-    ∙ stored-laid (map entryOf (faults h)) (triples (faults h)) l
-    ∙ ap (laid 3 l) (joined-map (faults h))
+    ∙ stored-laid (map (entryOf h) (faults h)) (sized h (faults h)) l
+    ∙ ap (laid entrySize l) (joined-map h (faults h))

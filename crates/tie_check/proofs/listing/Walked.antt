@@ -77,14 +77,14 @@ module _ (h : List ℕ) (accepted : refusalOf h ≡ Accepted) (c : ℕ) (below :
 
   pub slot-gives : (s keys links : List ℕ) (totals : Totals) (vessel column : ℕ) (b : Broken) → s ≡ cardAt h c
       → vessel ≡ vesselBy layout s → keys ≡ gathered h .keys → links ≡ gathered h .links → totals ≡ totalsOf h
-      → column ≡ columnIn row → b ≡ faultsBy keys links totals s vessel row → entriesFor b (c + 1) column ≡ slotEntries h c slot
+      → column ≡ columnIn row → b ≡ faultsBy keys links totals s vessel row → entriesFor b (c + 1) column vessel ≡ slotEntries h c slot
   unfolding slotEntries
   slot-gives s keys links totals vessel column b card v p q r o w =
       let own : vessel ≡ vesselOf (cardAt h c) = v ∙ rw (card, is) (vessel-at (cardAt h c)) in
       let same = row-is (layoutOf (cardAt h c)) slot row row-there in
       let e : b ≡ brokenFor h (cardAt h c) at = w ∙ rw (p, q, r, card, own, same)
       (judged h (few-cards h accepted) (printed h accepted) (cardAt h c) (printed h accepted c below) at low) in
-      rw (e, o ∙ slot-column) (of-column h c at)
+      rw (e, o ∙ slot-column, own) (of-column h c at)
 
 members-below : (l : List ℕ) (n i : ℕ) → 0 < n → ((x : ℕ) → List·Memᴰ x l → x < n) → getD l i 0 < n
 members-below [] n i z f = z

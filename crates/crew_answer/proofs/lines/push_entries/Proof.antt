@@ -6,7 +6,7 @@ use lib.Seq.{sets}
 use native.Mathlib.Numerals.{add-one}
 use native.Mathlib.Omega.{arith}
 use borrow.Author.Needs.{needs}
-use Rattle.crew_answer.specs.lines.Text.{entryAt, entriesText}
+use Rattle.crew_answer.specs.lines.Text.{entryAt, entriesText, longestEntry}
 use Rattle.crew_answer.proofs.lines.Pushing.{Put, then}
 use Rattle.crew_answer.proofs.lines.push_entries.Statement.{statement}
 use Rattle.crew_answer.proofs.lines.push_entries.Tie as tie
@@ -14,7 +14,7 @@ use Rattle.crew_answer.proofs.lines.push_entries.Tie as tie
 abbrev Inv-loop : tie.InvT-loop
 Inv-loop out₀ at list k end₀ i₀ out end i =
     (i ≤ k) × (length out ≡ length out₀) × (out ≡ sets out₀ at (entriesText list i)) × (end ≡ at + length (entriesText list i))
-    × (end ≤ at + 33 * i)
+    × (end ≤ at + longestEntry * i)
 
 abbrev μ-loop : tie.MeasureT-loop
 μ-loop out₀ at list k end₀ i₀ out end i = k - i

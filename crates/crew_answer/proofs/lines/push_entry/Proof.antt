@@ -1,5 +1,6 @@
 -- `push_entry` meets its contract: the numbers of the entry stand one after the other in the list.
 use mathlib.Core.Path.{_∙_}
+use native.Mathlib.Nat.{add-zero}
 use Rattle.crew_answer.specs.lines.Text.{entryAt}
 use borrow.Author.Needs.{needs}
 use Rattle.crew_answer.proofs.lines.push_entry.Statement.{statement}
@@ -53,6 +54,18 @@ shared-slice-read-wide-3 c = search needs
 wide-requires-3 : tie.Need-wide-requires-3
 wide-requires-3 c κs = search needs
 
+add-wide-3 : tie.Need-add-wide-3
+add-wide-3 c = search needs
+
+mul-wide-4 : tie.Need-mul-wide-4
+mul-wide-4 c = search needs
+
+shared-slice-read-wide-4 : tie.Need-shared-slice-read-wide-4
+shared-slice-read-wide-4 c = search needs
+
+wide-requires-4 : tie.Need-wide-requires-4
+wide-requires-4 c κs = search needs
+
 -- src/lib.rt:111:5
 push-line-requires : tie.Need-push-line-requires
 push-line-requires c κs = search needs
@@ -65,11 +78,15 @@ same-length c = search needs
 returns : tie.Need-returns
 unfolding entryAt
 returns c =
-    let p = c .before .before .push-line in (
-      p .ensures .0 ∙ rw (c .before .before .before .before .before .before .before .before .wide .ensures .0, c .before .before .before .before .before .before .wide2 .ensures .0, c .before .before .before .before .wide3 .ensures .0),
+    let p = c .before .before in
+    let z = p .before .before in
+    let y = z .before .before in
+    let x = y .before .before in
+    let w = x .before .before in (
+      p .push-line .ensures .0 ∙ rw (w .wide .ensures .0, x .wide2 .ensures .0, y .wide3 .ensures .0, z .wide4 .ensures .0, add-zero),
       (
-        p .ensures .1 .0 ∙ rw (c .before .before .before .before .before .before .before .before .wide .ensures .0, c .before .before .before .before .before .before .wide2 .ensures .0, c .before .before .before .before .wide3 .ensures .0),
-        p .ensures .1 .1,
+        p .push-line .ensures .1 .0 ∙ rw (w .wide .ensures .0, x .wide2 .ensures .0, y .wide3 .ensures .0, z .wide4 .ensures .0, add-zero),
+        p .push-line .ensures .1 .1,
       ),
     )
 
@@ -89,6 +106,10 @@ push-entry-spec =
     mul-wide-3
     shared-slice-read-wide-3
     wide-requires-3
+    add-wide-3
+    mul-wide-4
+    shared-slice-read-wide-4
+    wide-requires-4
     push-line-requires
     same-length
     returns)

@@ -1,4 +1,4 @@
--- `push_line` meets its contract: three numbers, the end of the line.
+-- `push_line` meets its contract: its numbers, the end of the line.
 use native.Mathlib.Omega.{arith}
 use Rattle.crew_answer.specs.lines.Text.{numeral, spaced, newline, entryText}
 use Rattle.crew_answer.proofs.lines.Pushing.{Put, then}
@@ -18,6 +18,9 @@ push-spaced-requires c κs = search needs
 push-spaced-requires-2 : tie.Need-push-spaced-requires-2
 push-spaced-requires-2 c κs = search needs
 
+push-spaced-requires-3 : tie.Need-push-spaced-requires-3
+push-spaced-requires-3 c κs = search needs
+
 -- src/lib.rt:96:5
 push-requires : tie.Need-push-requires
 push-requires c κs = search needs
@@ -30,21 +33,30 @@ same-length c = search needs
 returns : tie.Need-returns
 unfolding entryText
 returns c =
-    let args = c .before .before .before .before .before .before .before .before .before .before .before .before .before .before .before .before .before .args in
-    let w = c .before .before .before .before .before .before .before .before .before .before .before .before .before .before .push-number in
-    let x = c .before .before .before .before .before .before .before .before .before .before .push-spaced in
-    let y = c .before .before .before .before .before .before .push-spaced2 in
-    let q = c .before .before .push in
-    let small = c .before .before .before .before .before .before .before .before .before .before .before .before .before .before .before .before .before .pre .1 in
-    let a : Put (args .out .now) (args .at) (numeral (args .card)) (w .last .0) (w .result) = record { out = w .ensures .0; place = w .ensures .1 .0 } in
-    let b : Put (w .last .0) (w .result) (spaced (args .column)) (x .last .0) (x .result) = record { out = x .ensures .0; place = x .ensures .1 .0 } in
-    let d : Put (x .last .0) (x .result) (spaced (args .kind)) (y .last .0) (y .result) = record { out = y .ensures .0; place = y .ensures .1 .0 } in
-    let e : Put (y .last .0) (y .result) newline (q .last .0) (q .result) = record { out = q .ensures .0; place = q .ensures .1 } in
-    let t = then (then (then a b) d) e in (
+    let q = c .before .before in
+    let z = q .before .before .before .before in
+    let y = z .before .before .before .before in
+    let x = y .before .before .before .before in
+    let w = x .before .before .before .before in
+    let s = w .before .before .before in
+    let small = s .pre .1 in
+    let a : Put (s .args .out .now) (s .args .at) (numeral (s .args .card)) (w .push-number .last .0) (w .push-number .result) = record { out = w .push-number .ensures .0; place = w .push-number .ensures .1 .0 } in
+    let b : Put (w .push-number .last .0) (w .push-number .result) (spaced (s .args .column)) (x .push-spaced .last .0) (x .push-spaced .result) = record { out = x .push-spaced .ensures .0; place = x .push-spaced .ensures .1 .0 } in
+    let d : Put (x .push-spaced .last .0) (x .push-spaced .result) (spaced (s .args .kind)) (y .push-spaced2 .last .0) (y .push-spaced2 .result) = record { out = y .push-spaced2 .ensures .0; place = y .push-spaced2 .ensures .1 .0 } in
+    let e : Put (y .push-spaced2 .last .0) (y .push-spaced2 .result) (spaced (s .args .vessel)) (z .push-spaced3 .last .0) (z .push-spaced3 .result) = record { out = z .push-spaced3 .ensures .0; place = z .push-spaced3 .ensures .1 .0 } in
+    let f : Put (z .push-spaced3 .last .0) (z .push-spaced3 .result) newline (q .push .last .0) (q .push .result) = record { out = q .push .ensures .0; place = q .push .ensures .1 } in
+    let t = then (then (then (then a b) d) e) f in (
       t .out,
       (
         t .place,
-        omega (arith, w .ensures .1 .1 .1 (small .0), x .ensures .1 .1 .1 (small .1), y .ensures .1 .1 .1 (small .2), q .ensures .1),
+        omega (
+          arith,
+          w .push-number .ensures .1 .1 .1 (small .0),
+          x .push-spaced .ensures .1 .1 .1 (small .1),
+          y .push-spaced2 .ensures .1 .1 .1 (small .2),
+          z .push-spaced3 .ensures .1 .1 .1 (small .3),
+          q .push .ensures .1,
+        ),
       ),
     )
 
@@ -55,6 +67,7 @@ push-line-spec =
     push-number-requires
     push-spaced-requires
     push-spaced-requires-2
+    push-spaced-requires-3
     push-requires
     same-length
     returns)

@@ -5,7 +5,7 @@ use lib.ListN.{length-set}
 use denote.Ref.{now}
 use native.Mathlib.Omega.{arith}
 use Rattle.base_lists.proofs.Laying.{stored-full}
-use Rattle.tie_check.proofs.entries.Stored.{three-stored}
+use Rattle.tie_check.proofs.entries.Stored.{numbers-stored}
 use borrow.Author.Needs.{needs}
 use Rattle.tie_check.proofs.entries.put.Statement.{statement}
 use Rattle.tie_check.proofs.entries.put.Tie as tie
@@ -16,7 +16,7 @@ add-if1 c = search needs
 returns : tie.Need-returns
 returns c =
     let s = c .before in
-    sym (stored-full (now (s .args .list)) (s .args .at) (s .args .card ∷ s .args .column ∷ s .args .kind ∷ []) (omega arith))
+    sym (stored-full (now (s .args .list)) (s .args .at) (s .args .card ∷ s .args .column ∷ s .args .kind ∷ s .args .vessel ∷ []) (omega arith))
 
 mul-list : tie.Need-mul-list
 mul-list c = search needs
@@ -42,13 +42,22 @@ mul-list-3 c = search needs
 slice-write-list-3 : tie.Need-slice-write-list-3
 slice-write-list-3 c = rw (length-set, length-set) (omega arith)
 
+add-list-3 : tie.Need-add-list-3
+add-list-3 c = search needs
+
+mul-list-4 : tie.Need-mul-list-4
+mul-list-4 c = search needs
+
+slice-write-list-4 : tie.Need-slice-write-list-4
+slice-write-list-4 c = rw (length-set, length-set, length-set) (omega arith)
+
 same-length : tie.Need-same-length
 same-length c = search needs
 
 returns-2 : tie.Need-returns-2
 returns-2 c =
     let a = c .before .args in
-    three-stored (now (a .list)) (a .at) (a .card) (a .column) (a .kind) (omega arith)
+    numbers-stored (now (a .list)) (a .at) (a .card) (a .column) (a .kind) (a .vessel) (omega arith)
 
 pub put-spec : {M : Type 1} → statement M
 put-spec =
@@ -64,5 +73,8 @@ put-spec =
     add-list-2
     mul-list-3
     slice-write-list-3
+    add-list-3
+    mul-list-4
+    slice-write-list-4
     same-length
     returns-2)

@@ -31,7 +31,7 @@ returns c =
     let g = f .before .before .before .before in
     let a = g .before .before .before .before in
     let s = a .before .before .before in
-    let five = five-kinds (s .args .broken) (s .args .card) (s .args .column) (s .args .found) _ _ _ _ _ _ _ _ _ _ _
+    let five = five-kinds (s .args .broken) (s .args .card) (s .args .column) (s .args .vessel) (s .args .found) _ _ _ _ _ _ _ _ _ _ _
     (a .put-if .ensures .0) (a .put-if .ensures .1 .0) (g .put-if2 .ensures .0) (g .put-if2 .ensures .1 .0)
     (f .put-if3 .ensures .0) (f .put-if3 .ensures .1 .0) (d .put-if4 .ensures .0) (d .put-if4 .ensures .1 .0)
     (e .put-if5 .ensures .0) (e .put-if5 .ensures .1 .0) in (

@@ -11,6 +11,7 @@ use Rattle.base_lists.specs.Parts.{upTo}
 use Rattle.header_check.specs.forms.Cards.{cardAt, cardsIn, layoutOf}
 use Rattle.header_check.proofs.forms.Steps.{card-part, card-ends}
 use Rattle.header_laws.proofs.Accepted.{few-cards}
+use Rattle.tie_rules.specs.Faults.{kinds}
 use Rattle.tie_rules.proofs.columns.Tied.{none-behind}
 use Rattle.tie_check.specs.packed.Stored.{storedAll}
 use Rattle.tie_check.specs.packed.Listed.{slotEntries, cardEntries}
@@ -23,7 +24,7 @@ use Rattle.tie_check.proofs.listing.list_card.Tie as tie
 
 abbrev Inv-loop : tie.InvT-loop
 Inv-loop list₀ found header layouts store links totals place from card layout vessel m₀ slot₀ list m slot =
-    (slot ≤ 5) × (m ≤ found + 5 * slot) × (list ≡ storedAll list₀ found (flatMap (slotEntries header place) (upTo slot)))
+    (slot ≤ 5) × (m ≤ found + kinds * slot) × (list ≡ storedAll list₀ found (flatMap (slotEntries header place) (upTo slot)))
     × (m ≡ found + length (flatMap (slotEntries header place) (upTo slot)))
 
 abbrev μ-loop : tie.MeasureT-loop
@@ -130,6 +131,9 @@ cast-put-all-2 c =
     let e = slot-column h (s .pre .0) p (below s) _ (b .slot) _ n (t .tie-of .ensures) in
     record { fits = omega (arith, c .column-of .ensures, e, column-below (layoutOf (cardAt h p)) (b .slot)) }
 
+cast-put-all-3 : tie.Need-cast-put-all-3 Inv-loop μ-loop
+cast-put-all-3 c = search needs
+
 put-all-requires : tie.Need-put-all-requires Inv-loop μ-loop
 put-all-requires c κs =
     let l = c .before .before .before .before .before .before in
@@ -202,6 +206,7 @@ list-card-spec =
     cast-put-all
     column-of-requires
     cast-put-all-2
+    cast-put-all-3
     put-all-requires
     add-slot
     loop-less

@@ -8,7 +8,7 @@ use native.Mathlib.Omega.{arith}
 use borrow.Author.Needs.{needs}
 use Rattle.base_lists.specs.Parts.{upTo}
 use Rattle.header_check.specs.forms.Cards.{cardsIn}
-use Rattle.tie_rules.specs.Faults.{faults}
+use Rattle.tie_rules.specs.Faults.{kinds, faults}
 use Rattle.tie_check.specs.packed.Stored.{storedAll}
 use Rattle.tie_check.specs.packed.Listed.{cardEntries, entriesTo}
 use Rattle.tie_check.proofs.entries.Stored.{length-stored-all}
@@ -19,7 +19,7 @@ use Rattle.tie_check.proofs.listing.list_cards.Tie as tie
 
 abbrev Inv-loop : tie.InvT-loop
 Inv-loop list₀ header layouts store links totals count found₀ place₀ list found place =
-    (place ≤ length header / 80) × (found ≤ 25 * place)
+    (place ≤ length header / 80) × (found ≤ 5 * kinds * place)
     × (list ≡ storedAll list₀ 0 (flatMap (cardEntries header) (upTo place)))
     × (found ≡ 0 + length (flatMap (cardEntries header) (upTo place)))
 
