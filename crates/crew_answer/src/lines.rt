@@ -12,8 +12,8 @@ ghost use Rattle.crew_answer.specs.lines.Text.{numeral, spaced, refusedT
 // The most entries that are told.
 pub const MOST: usize = 4000;
 
-// No line of an entry is longer: four numbers of ten digits, each with a byte behind it.
-const LONGEST_ENTRY: usize = 44;
+// No line of an entry is longer: ten digits a number, and a byte behind each.
+const LONGEST_ENTRY: usize = 11 * ENTRY;
 
 // No answer is longer: a line that begins with broken, and that many entries.
 pub const LONGEST: usize = 28 + MOST * LONGEST_ENTRY;

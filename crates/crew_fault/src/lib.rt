@@ -6,6 +6,7 @@ use crew_io::page;
 use format_layout::names::H00X8;
 use header_check::forms;
 use tie_rules::keys;
+use tie_rules::keys::NO_VESSEL;
 
 // How many places are told one by one where there are many.
 const MOST: usize = 10;
@@ -122,11 +123,25 @@ fn push_rest(out: &mut [u8], n: usize, times: usize) -> usize {
     )
 }
 
-// Kind 1: what is named, and which card there is none of.
-fn push_undefined(out: &mut [u8], n: usize, key: u64) -> usize {
+// Puts the vessel of an entry in brackets, where there is one.
+fn push_of_vessel(out: &mut [u8], n: usize, vessel: u32) -> usize {
+    if vessel < NO_VESSEL as u32 {
+        return page::push_form(out, n, b" (vessel #)", vessel as u64, 0, 0);
+    }
+    n
+}
+
+// Puts what is named, and of which vessel the card is that names it.
+fn push_named(out: &mut [u8], n: usize, key: u64, vessel: u32) -> usize {
     let thing = names::push_thing(out, n, key);
     let used = names::push_use(out, thing, key);
-    let none = page::push_all(out, used, b", and no ");
+    push_of_vessel(out, used, vessel)
+}
+
+// Kind 1: what is named, and which card there is none of.
+fn push_undefined(out: &mut [u8], n: usize, key: u64, vessel: u32) -> usize {
+    let named = push_named(out, n, key, vessel);
+    let none = page::push_all(out, named, b", and no ");
     let code = names::push_definers(out, none, key);
     page::push_all(out, code, b" card defines it.")
 }
@@ -138,24 +153,32 @@ fn push_redefined(
     header: &[u8],
     keys: &[u64],
     key: u64,
-    here: usize,
+    place: usize,
+    vessel: u32,
 ) -> usize {
     let times = places::times(keys, key);
     let thing = names::push_thing(out, n, key);
     let words = b" is defined in # places: here";
-    let first = page::push_form(out, thing, words, times as u64, 0, 0);
-    let others = push_places(out, first, header, keys, key, here, 1, times);
+    let here = page::push_form(out, thing, words, times as u64, 0, 0);
+    let first = push_of_vessel(out, here, vessel);
+    let others = push_places(out, first, header, keys, key, place, 1, times);
     let rest = push_rest(out, others, times);
     page::push(out, rest, b'.')
 }
 
 // Kind 3: what is named, how often it is defined, and where.
-fn push_ambiguous(out: &mut [u8], n: usize, header: &[u8], keys: &[u64], key: u64) -> usize {
+fn push_ambiguous(
+    out: &mut [u8],
+    n: usize,
+    header: &[u8],
+    keys: &[u64],
+    key: u64,
+    vessel: u32,
+) -> usize {
     let times = places::times(keys, key);
-    let thing = names::push_thing(out, n, key);
-    let used = names::push_use(out, thing, key);
+    let named = push_named(out, n, key, vessel);
     let words = b" and defined in # places: ";
-    let first = page::push_form(out, used, words, times as u64, 0, 0);
+    let first = page::push_form(out, named, words, times as u64, 0, 0);
     let all = push_places(out, first, header, keys, key, keys.len(), 0, times);
     let rest = push_rest(out, all, times);
     page::push(out, rest, b'.')
@@ -235,8 +258,17 @@ fn push_points(out: &mut [u8], n: usize, keys: &[u64], card: &[u8]) -> usize {
 }
 
 // Kind 5: the count that is stated, and the one that is found.
-fn push_miscounted(out: &mut [u8], n: usize, keys: &[u64], card: &[u8], layout: usize) -> usize {
-    let begun = page::push_all(out, n, b"This card states ");
+fn push_miscounted(
+    out: &mut [u8],
+    n: usize,
+    keys: &[u64],
+    card: &[u8],
+    layout: usize,
+    vessel: u32,
+) -> usize {
+    let this = page::push_all(out, n, b"This card");
+    let named = push_of_vessel(out, this, vessel);
+    let begun = page::push_all(out, named, b" states ");
     if layout == H00X8 {
         return push_waypoints(out, begun, keys, card);
     }
@@ -252,26 +284,27 @@ fn push_sentence(
     card: usize,
     column: usize,
     kind: u32,
+    vessel: u32,
 ) -> usize {
     let text = page::card_in(header, card);
     let layout = forms::layout_of(text);
     let row = places::row_at(layout, column);
     let key = keys::referred_by(text, row);
     match kind {
-        1 => push_undefined(out, n, key),
+        1 => push_undefined(out, n, key, vessel),
         2 => {
             let defined = keys::defined_by(text, row);
             let here = places::place_at(header, card, column);
-            push_redefined(out, n, header, keys, defined, here)
+            push_redefined(out, n, header, keys, defined, here, vessel)
         }
-        3 => push_ambiguous(out, n, header, keys, key),
+        3 => push_ambiguous(out, n, header, keys, key, vessel),
         4 => {
             if keys::states_own(row) {
                 return push_own(out, n, text, layout, column);
             }
             push_apart(out, n, header, keys, key, text)
         }
-        5 => push_miscounted(out, n, keys, text, layout),
+        5 => push_miscounted(out, n, keys, text, layout, vessel),
         _ => n,
     }
 }
@@ -285,11 +318,12 @@ pub fn tell_fault(
     card: u32,
     column: u32,
     kind: u32,
+    vessel: u32,
 ) -> usize {
     let place = card as usize;
     let at = column as usize;
     let shown = page::push_card(out, n, page::card_in(header, place), at);
     let begun = page::push_all(out, shown, b"  ");
-    let told = push_sentence(out, begun, header, keys, place, at, kind);
+    let told = push_sentence(out, begun, header, keys, place, at, kind, vessel);
     page::push(out, told, b'\n')
 }

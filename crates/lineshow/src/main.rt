@@ -6,12 +6,13 @@ use crew_io::input;
 use crew_io::input::Input;
 use crew_io::page;
 use tie_check::Ties;
+use tie_check::entries::ENTRY;
 
 // The longest header, and one card more to notice a longer one.
 const ROOM: usize = 64080;
 
-// Three numbers for each entry, and five places of keys for each card.
-const LIST: usize = 12000;
+// Room for the entries that are told, and for five places of keys on each card.
+const LIST: usize = lines::MOST * ENTRY;
 
 const KEYS: usize = 4000;
 
@@ -49,11 +50,20 @@ fn explain(
     if lines == 0 {
         return n;
     }
-    if list.len() / lines::ENTRY < lines {
+    if list.len() / ENTRY < lines {
         return n;
     }
-    let at = (lines - 1) * lines::ENTRY;
-    crew_fault::tell_fault(out, n, header, keys, list[at], list[at + 1], list[at + 2])
+    let at = (lines - 1) * ENTRY;
+    crew_fault::tell_fault(
+        out,
+        n,
+        header,
+        keys,
+        list[at],
+        list[at + 1],
+        list[at + 2],
+        list[at + 3],
+    )
 }
 
 // Puts linecheck's text as it is, and each entry's explanation behind its line.

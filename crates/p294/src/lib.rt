@@ -140,7 +140,7 @@ pub extern "C" fn p294_check(header: &[u8], list: &mut [u32], numbers: &mut [i64
     ensures numbers { λ _. ⌜ now (numbers .exit)
         ≡ given (now (numbers .entry)) (tiesReply (answerFor (refusalOf (now (header .entry))) (length (faults (now (header .entry)))))) ⌝ }
     ensures list { λ _. ⌜ now (list .exit)
-        ≡ listFor (refusalOf (now (header .entry))) (now (list .entry)) (entries (faults (now (header .entry)))) ⌝ }
+        ≡ listFor (refusalOf (now (header .entry))) (now (list .entry)) (entries (now (header .entry))) ⌝ }
 {
     let reply = answers::of_ties(tie_check::check(header, list));
     give(numbers, reply)

@@ -1,5 +1,6 @@
 // Lists of numbers that the check is lent: marked before it, shown or summed behind it.
 use test_script::say;
+use tie_check::entries::ENTRY;
 ghost use Prim.Native.Nat.{_<_};
 
 // The mark of a place, larger than any number of an entry.
@@ -16,9 +17,9 @@ pub fn mark(list: &mut [u32]) {
     }
 }
 
-// Writes the number at a place, a bar before each three.
+// Writes the number at a place, a bar before each entry.
 fn say_entry(i: usize, x: u32) {
-    if i % 3 == 0 {
+    if i % ENTRY == 0 {
         say::words(b" |");
     }
     say::next(x as u64)

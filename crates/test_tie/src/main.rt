@@ -7,7 +7,7 @@ use test_script::say;
 use tie_check::Ties;
 
 // The most numbers that a list is lent.
-const ROOM: usize = 12288;
+const ROOM: usize = 16384;
 
 // Writes the number of broken ties, or the refusal.
 fn say_ties(t: Ties) {

@@ -12,9 +12,12 @@ use Rattle.format_layout.specs.declared.Kind.{Kind}
 use Rattle.format_layout.specs.declared.Kind.the-variants.{Text, Comment, Whole, Decimal, Date, Latitude, Longitude}
 use Rattle.format_layout.specs.declared.Found.{Found}
 use Rattle.format_layout.specs.declared.Found.the-variants.{Is, Nothing}
-use Rattle.format_layout.specs.Table.{layouts}
+use Rattle.format_layout.specs.Table.{layouts, passedCodes}
 use Rattle.format_layout.specs.Layouts.{layoutAt, fieldsOf, fieldOf}
+use Rattle.format_code.specs.Codes.{byteFits, fitsAt, fits, codes, placeIn, codeAt, codeOf}
+use Rattle.header_check.specs.forms.Cards.{byteIn, layoutOf}
 use Rattle.tie_rules.specs.Ties.{Source, digit, whole, serial, waypoint, only, nothing, Tie, ties, lineIn, lineFor, hasVessel}
+use Rattle.tie_rules.specs.Keys.{vesselOf}
 use Rattle.tie_rules.specs.Readings.{numberFrom, numberAt}
 use Rattle.format_layout.specs.Names.{H00X8, H00X9, H0100, H0101, H011X, H0120, H17X0, H17X1, H21X0, H21X1, H21X2, H21X3, H22X0, H23X0}
 
@@ -39,6 +42,14 @@ isDigit b = eqb b 64 || eqb b 35
 pub vessels-by-code : map hasVessel (upTo (length layouts)) ≡ map (λ (l : Layout). isDigit (getD (l .code) 3 0)) layouts
 unfolding layouts hasVessel upTo
 vessels-by-code = refl
+
+-- the vessel of a card is that digit, whatever its vessel field says; 10 where the code has none
+pub vessels-told : map vesselOf (
+    bytes "H0008" ∷ bytes "H0018Line Parameters Vessel: 2" ∷ bytes "H0029 3" ∷ bytes "H1731" ∷ bytes "H2190" ∷ bytes "H2350" ∷
+    bytes "H0000" ∷ bytes "H0100" ∷ bytes "H0101" ∷ bytes "H0112" ∷ bytes "H0120" ∷ bytes "H2300" ∷ bytes "H2301" ∷ bytes "C0001" ∷ [])
+    ≡ 0 ∷ 1 ∷ 2 ∷ 3 ∷ 9 ∷ 5 ∷ 10 ∷ 10 ∷ 10 ∷ 10 ∷ 10 ∷ 10 ∷ 10 ∷ 10 ∷ []
+unfolding layouts passedCodes byteFits fitsAt fits codes placeIn codeAt codeOf byteIn layoutOf hasVessel vesselOf
+vessels-told = refl
 
 abbrev pub isWhole : Kind → Bool
 isWhole Text = false

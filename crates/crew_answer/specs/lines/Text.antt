@@ -61,9 +61,9 @@ told n l = min (min n most) (length l / entrySize)
 unfoldable pub brokenText : ℕ → List ℕ → List ℕ
 brokenText n l = countText n ++ entriesText l (told n l)
 
--- no line of an entry is longer, with four numbers of ten digits; no answer is longer, with a number of twenty
+-- no line of an entry is longer, with ten digits a number; no answer is longer, with twenty for the number of all faults
 abbrev pub longestEntry : ℕ
-longestEntry = 44
+longestEntry = 11 * entrySize
 
 abbrev pub longest : ℕ
 longest = 28 + most * longestEntry
