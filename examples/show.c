@@ -6,14 +6,15 @@
 #include <stdlib.h>
 #include <string.h>
 
-/* One byte more than the longest header, to notice that there is more; three numbers for each of the most faults. */
-enum { MOST = P294_CARDS * P294_CARD, ENTRIES = 4000, ENTRY = 3 };
+/* The longest header, and more entries than it can have faults. */
+enum { MOST = P294_CARDS * P294_CARD, ENTRIES = 4000 };
 
 /* The number of a field in its code, from left to right. */
 enum { NAME = 1, NODE = 2, SECOND_NODE = 6 };
 
+/* One byte more, to notice a longer one. */
 static uint8_t header[MOST + 1];
-static uint32_t list[ENTRIES * ENTRY];
+static uint32_t list[ENTRIES * P294_ENTRY];
 
 static const char *kinds[] = {"",
                               "refers to what is not defined",
@@ -65,8 +66,11 @@ static void print_header(size_t length, size_t faults)
     }
     printf("%zu faults\n", faults);
     for (size_t i = 0; i < faults && i < ENTRIES; i++) {
-        const uint32_t *entry = list + ENTRY * i;
-        printf("card %u, column %u %s\n", (unsigned)entry[0], (unsigned)entry[1], kinds[entry[2]]);
+        const uint32_t *entry = list + P294_ENTRY * i;
+        printf("card %u, column %u %s", (unsigned)entry[0], (unsigned)entry[1], kinds[entry[2]]);
+        if (entry[3] != P294_NO_VESSEL)
+            printf(" (vessel %u)", (unsigned)entry[3]);
+        putchar('\n');
     }
 }
 

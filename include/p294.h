@@ -41,8 +41,9 @@
 extern "C" {
 #endif
 
-/* How many numbers go with an answer; the bytes of a card and of a code; the most cards of a header. */
-enum { P294_NUMBERS = 3, P294_CARD = 80, P294_CODE = 5, P294_CARDS = 800 };
+/* How many numbers go with an answer, and how many an entry of the list of faults has; the bytes of a card and of a code;
+ * the most cards of a header. */
+enum { P294_NUMBERS = 3, P294_ENTRY = 4, P294_CARD = 80, P294_CODE = 5, P294_CARDS = 800 };
 
 /* Refusals. On a single card the card is 1, but card and column are 0 for 1, 2, 13 and a refused form. */
 enum {
@@ -101,9 +102,13 @@ int64_t p294_put_text(uint8_t *card, size_t length, size_t field, size_t form, c
                       int64_t *numbers, size_t room);
 
 /* Checks a header. said is the number of all faults between its cards, and list has their entries from its front on, as
- * many whole ones as fit: card, column, kind, ordered by these three. The rest of the list stays as it was. list_length
- * counts numbers, not entries; 12000 are enough for every header. Refused 1 to 11, at the first offence. */
+ * many whole ones as fit: card, column, kind, and the vessel digit in the card's code (P294_NO_VESSEL where it has none),
+ * ordered by the first three. The rest of the list stays as it was. list_length counts numbers, not entries; 16000 are
+ * enough for every header. Refused 1 to 11, at the first offence. */
 int64_t p294_check(const uint8_t *header, size_t length, uint32_t *list, size_t list_length, int64_t *numbers, size_t room);
+
+/* The vessel of an entry whose card's code has no vessel digit. */
+enum { P294_NO_VESSEL = 10 };
 
 /* Kinds of fault. */
 enum {

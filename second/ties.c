@@ -187,6 +187,13 @@ static unsigned kinds_of(const struct ties *t, const struct tie *d)
     }
 }
 
+// The vessel digit in the code of a card with ties. The layouts of H00@8 and H00@9 have # for it, since it may be 0 there.
+static uint32_t vessel_of(const uint8_t *card)
+{
+    const char *code = layouts[code_of(card)].code;
+    return code[3] == '@' || memcmp(code, "H00#", 4) == 0 ? digit_at(card, 4) : NO_VESSEL;
+}
+
 static int same_place(const struct tie *a, const struct tie *b)
 {
     return a->card == b->card && a->column == b->column;
@@ -212,6 +219,7 @@ struct refusal check_ties(const uint8_t *header, size_t size, uint32_t *list, si
                 list[ENTRY_SIZE * n] = t.list[i].card;
                 list[ENTRY_SIZE * n + 1] = t.list[i].column;
                 list[ENTRY_SIZE * n + 2] = kind;
+                list[ENTRY_SIZE * n + 3] = vessel_of(header + (t.list[i].card - 1u) * CARD_SIZE);
             }
             n++;
         }

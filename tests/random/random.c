@@ -134,7 +134,7 @@ static void answer(const struct buffer *b, struct text *t, struct ends *e)
     t->size = (size_t)snprintf(t->at, MOST_TEXT, "broken %zu\n", faults);
     for (size_t i = 0; i < faults && i < MOST_ENTRIES; i++) {
         const uint32_t *f = list + ENTRY_SIZE * i;
-        t->size += (size_t)snprintf(t->at + t->size, MOST_TEXT - t->size, "%u %u %u\n", f[0], f[1], f[2]);
+        t->size += (size_t)snprintf(t->at + t->size, MOST_TEXT - t->size, "%u %u %u %u\n", f[0], f[1], f[2], f[3]);
         e->faults[f[2]]++;
     }
 }

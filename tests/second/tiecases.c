@@ -331,8 +331,10 @@ static void break_tie(void)
         break;
     case 3:
     case 4:
-        if (has_vessel(code) || code == LINE || code == WAYPOINT)
+        if (has_vessel(code))
             header[i][3] = one_of("123");
+        else if (code == LINE || code == WAYPOINT)
+            header[i][3] = one_of("0123");
         break;
     case 5: change_stated(i); break;
     default: change_key(i, j);
@@ -524,16 +526,19 @@ static size_t room_for(size_t faults)
 // The histogram.
 
 static unsigned came[LAYOUTS][CARD_SIZE + 1][KINDS + 1], paired[PAIRS], rooms[ROOMS], fits[3][ENTRY_SIZE], headers[3];
+static unsigned told[NO_VESSEL + 1]; // by the vessel of an entry
 static unsigned counted[CLASSES + 1][3], offered[CLASSES + 1][3], beyond[CLASSES + 1], no_class, not_asked;
 
 static void count_list(const uint32_t *list, size_t faults)
 {
     for (const uint32_t *e = list; e < list + faults * ENTRY_SIZE; e += ENTRY_SIZE) {
         int code = code_of(header[e[0] - 1]);
+        const uint32_t *b = e - ENTRY_SIZE; // the entry before it
         came[code][e[1]][e[2]]++;
+        told[e[3]]++;
         for (unsigned k = 0; k < PAIRS && e > list; k++)
-            if (e[-3] == e[0] && e[-2] == e[1] && code == pairs[k].layout && e[1] == pairs[k].column &&
-                e[-1] == pairs[k].first && e[2] == pairs[k].second)
+            if (b[0] == e[0] && b[1] == e[1] && code == pairs[k].layout && e[1] == pairs[k].column &&
+                b[2] == pairs[k].first && e[2] == pairs[k].second)
                 paired[k]++;
     }
 }
@@ -626,6 +631,11 @@ static void room_histogram(void)
             printf(" %u", fits[k][m]);
             demand(fits[k][m] > 0, "room left", k, m, 0);
         }
+    printf("; vessels");
+    for (unsigned k = 0; k <= NO_VESSEL; k++) {
+        printf(" %u", told[k]);
+        demand(told[k] > 0, "vessel", k, 0, 0);
+    }
     putchar('\n');
 }
 
