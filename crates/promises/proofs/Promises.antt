@@ -36,10 +36,10 @@ use Rattle.header_check.specs.declared.Checked.the-variants.{Accepted, Refused}
 use Rattle.header_check.specs.forms.Cards.{cardAt, cardsIn, layoutOf, unread}
 use Rattle.header_check.specs.Refusing.{refusalOf}
 use Rattle.tie_rules.specs.Ties.{Role, defines, refers, lineFor}
-use Rattle.tie_rules.specs.Keys.{classAt, keyAt, holdsKey}
+use Rattle.tie_rules.specs.Keys.{classAt, keyAt, holdsKey, vesselOf}
 use Rattle.tie_rules.specs.Readings.{keyRead}
 use Rattle.tie_rules.specs.Definitions.{definitionsOf, placeOf}
-use Rattle.tie_rules.specs.Faults.{broken, faults, entries}
+use Rattle.tie_rules.specs.Faults.{broken, faults, entrySize, entryFor, entries}
 use Rattle.tie_check.specs.declared.Ties.the-variants.{Found}
 use Rattle.tie_check.specs.Answer.{answerFor, listFor}
 use Rattle.tie_lookup.specs.declared.questions.Key.{Key}
@@ -108,7 +108,7 @@ refused-text s n form t r = cards.refused-stays (puttingTextOf s n form t) s r
 pub refused-opening : (code s : List ℕ) (r : Refusal) → openedOf code (length s) ≡ opened.Refused r → openedCard code s ≡ s
 refused-opening = cards.refused-opening
 
-pub refused-check : (h l : List ℕ) (r : Refusal) → refusalOf h ≡ Refused r → listFor (refusalOf h) l (entries (faults h)) ≡ l
+pub refused-check : (h l : List ℕ) (r : Refusal) → refusalOf h ≡ Refused r → listFor (refusalOf h) l (entries h) ≡ l
 refused-check = lists.refused-check
 
 -- EXACT. What is read is what stands there; blank is never zero.
@@ -171,12 +171,13 @@ text-outside = cards.text-outside
 pub number : (h : List ℕ) → refusalOf h ≡ Accepted → answerFor (refusalOf h) (length (faults h)) ≡ Found (length (listOf h))
 number = lists.number
 
-pub listed : (h : List ℕ) (c column kind : ℕ) → c < cardsIn h
-    → List·Memᴰ ((c + 1) ∷ column ∷ kind ∷ []) (listOf h) ↔ (broken h c column kind ≡ true)
+pub listed : (h : List ℕ) (c column kind vessel : ℕ) → c < cardsIn h
+    → List·Memᴰ ((c + 1) ∷ column ∷ kind ∷ vessel ∷ []) (listOf h)
+    ↔ ((broken h c column kind ≡ true) × (vessel ≡ vesselOf (cardAt h c)))
 listed = complete.broken-listed
 
 pub nothing-else : (h e : List ℕ) → List·Memᴰ e (listOf h)
-    → (c : ℕ) × (column : ℕ) × (kind : ℕ) × (c < cardsIn h) × (broken h c column kind ≡ true) × (e ≡ (c + 1) ∷ column ∷ kind ∷ [])
+    → (c : ℕ) × (column : ℕ) × (kind : ℕ) × (c < cardsIn h) × (broken h c column kind ≡ true) × (e ≡ entryFor h c column kind)
 nothing-else = lists.nothing-else
 
 pub ordered : (h : List ℕ) (i j : ℕ) → i < j → j < length (listOf h) → Before (getD (listOf h) i []) (getD (listOf h) j [])
@@ -185,16 +186,16 @@ ordered = complete.in-order
 pub once : (h : List ℕ) (i j : ℕ) → i < length (listOf h) → j < length (listOf h) → getD (listOf h) i [] ≡ getD (listOf h) j [] → i ≡ j
 once = complete.once
 
--- l is lent; entries of three numbers each
-pub first-that-fit : (h l : List ℕ) → refusalOf h ≡ Accepted → (i : ℕ) → i < min (length (listOf h)) (length l / 3)
-    → part 3 (listFor (refusalOf h) l (entries (faults h))) i ≡ getD (listOf h) i []
+-- l is lent; an entry takes four of its numbers
+pub first-that-fit : (h l : List ℕ) → refusalOf h ≡ Accepted → (i : ℕ) → i < min (length (listOf h)) (length l / entrySize)
+    → part entrySize (listFor (refusalOf h) l (entries h)) i ≡ getD (listOf h) i []
 first-that-fit = lists.first-that-fit
 
-pub rest-stays : (h l : List ℕ) → refusalOf h ≡ Accepted → (i : ℕ) → 3 * min (length (listOf h)) (length l / 3) ≤ i
-    → getD (listFor (refusalOf h) l (entries (faults h))) i 0 ≡ getD l i 0
+pub rest-stays : (h l : List ℕ) → refusalOf h ≡ Accepted → (i : ℕ) → entrySize * min (length (listOf h)) (length l / entrySize) ≤ i
+    → getD (listFor (refusalOf h) l (entries h)) i 0 ≡ getD l i 0
 rest-stays = lists.rest-stays
 
-pub as-long : (h l : List ℕ) → length (listFor (refusalOf h) l (entries (faults h))) ≡ length l
+pub as-long : (h l : List ℕ) → length (listFor (refusalOf h) l (entries h)) ≡ length l
 as-long = lists.as-long
 
 -- What is tied is what is read: in an accepted header a key is the answer to reading its field.
@@ -205,13 +206,14 @@ pub keys-are-read : (h : List ℕ) → refusalOf h ≡ Accepted → (c : ℕ) �
 keys-are-read = readings.key-is
 
 -- Cards behind the opening block may change places: the header is accepted, the check answers the same number, and an entry stands in
--- one list exactly if the entry with its card's new number stands in the other.
+-- one list exactly if the entry with its card's new number, and else the same, stands in the other.
 
 pub moved : (h h′ : List ℕ) → refusalOf h ≡ Accepted → (m : Moved h h′)
     → (refusalOf h′ ≡ Accepted)
     × (answerFor (refusalOf h′) (length (faults h′)) ≡ answerFor (refusalOf h) (length (faults h)))
-    × ((c column kind : ℕ) → c < cardsIn h
-    → List·Memᴰ ((c + 1) ∷ column ∷ kind ∷ []) (listOf h) ↔ List·Memᴰ ((m .order .to c + 1) ∷ column ∷ kind ∷ []) (listOf h′))
+    × ((c column kind vessel : ℕ) → c < cardsIn h
+    → List·Memᴰ ((c + 1) ∷ column ∷ kind ∷ vessel ∷ []) (listOf h)
+    ↔ List·Memᴰ ((m .order .to c + 1) ∷ column ∷ kind ∷ vessel ∷ []) (listOf h′))
 moved = lists.moved
 
 -- A question about a key is answered by its definitions: the header's refusal first, then 13 for a class that there is not, then none,
@@ -265,6 +267,6 @@ module _ (h : List ℕ) (a : refusalOf h ≡ Accepted) (c column : ℕ) (l : c <
 -- The paper's example of 13 cards.
 
 pub worked : answerTo example
-    ≡ bytes "broken 4" ++ newline ++ bytes "11 11 2" ++ newline ++ bytes "11 36 2" ++ newline ++ bytes "12 7 4" ++ newline
-    ++ bytes "13 7 1" ++ newline
+    ≡ bytes "broken 4" ++ newline ++ bytes "11 11 2 1" ++ newline ++ bytes "11 36 2 1" ++ newline ++ bytes "12 7 4 2" ++ newline
+    ++ bytes "13 7 1 1" ++ newline
 worked = worked-example.five-lines

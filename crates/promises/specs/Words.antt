@@ -35,9 +35,9 @@ pub record AlikeOutside (f : Field) (s t : List ℕ) : Type 0 where
   pub behind : drop (f .last) t ≡ drop (f .last) s
   pub as-long : length t ≡ length s
 
--- the list of a header's faults: an entry is the card, counted from 1, the column, the kind
+-- the list of a header's faults: an entry is the card, counted from 1, the column, the kind, the vessel
 abbrev pub listOf : List ℕ → List (List ℕ)
-listOf h = map entryOf (faults h)
+listOf h = map (entryOf h) (faults h)
 
 -- one entry comes before another: by card, then by column, then by kind
 abbrev pub Before : List ℕ → List ℕ → Type 0
