@@ -22,6 +22,7 @@ use Rattle.tie_rules.specs.Faults.{broken, faults, entrySize, entryFor, entryOf
 use Rattle.tie_check.specs.declared.Ties.the-variants.{Found}
 use Rattle.tie_check.specs.Answer.{answerFor, listFor}
 use Rattle.tie_laws.proofs.Complete as complete
+use Rattle.tie_laws.proofs.Moved.{entry-moved}
 use Rattle.tie_laws.proofs.Rearranged.{rearranged-alike}
 use Rattle.promises.specs.Words.{listOf, opens, Moved}
 
@@ -82,11 +83,7 @@ moved h h′ a m =
     sym (length-map (faults h′) (entryOf h′)) ∙ r .1 .as-many ∙ length-map (faults h) (entryOf h) in (
       r .0,
       ap₂ answerFor (r .0 ∙ sym a) same,
-      λ c column kind l.
-          let x = complete.listed-exactly h (c + 1) column kind in
-          let y = complete.listed-exactly h′ (m .order .to c + 1) column kind in
-          let z = r .1 .on-cards c column kind l in
-          (λ e. y .1 (z .0 (x .0 e)), λ e. x .1 (z .1 (y .0 e))),
+      entry-moved h h′ (record { order = m .order; same-length = m .same-length; same-card = m .same-card }),
     )
   where
     -- the cards before the end of the block are opening cards
