@@ -1,3 +1,4 @@
 pub mod Ways
 pub mod OneKind
+pub mod Standing
 pub mod Absence

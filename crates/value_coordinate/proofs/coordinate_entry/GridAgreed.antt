@@ -50,6 +50,6 @@ grid-agreed a s d h = go (eqb (blanks s) (length s)) refl (eqb (getD s (length s
     go true p c e = absurd (let x : _≡_ {A = ℕ} 0 1 = cc in omega arith)
     go false p false e = absurd (let x : _≡_ {A = ℕ} 0 1 = cc in omega arith)
     go false p true e =
-        let u = decimal-agreed true front d (number-there (numberOf true front) d e) in
         let k : length front ≡ length s - 1 = length-take-le (length s - 1) s (omega arith) in
-        (u .0 ++ (letterOf a false ∷ []), rw (ne-eqb (length s) 0 (some-columns s p), rw k at (u .1)))
+        let u = decimal-agreed true front d (number-there (numberOf true front) d e) (length s - 1) (omega arith) in
+        (u .0 ++ (letterOf a false ∷ []), rw (ne-eqb (length s) 0 (some-columns s p), u .1))

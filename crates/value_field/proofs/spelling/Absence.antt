@@ -2,10 +2,10 @@
 use Prim.Native.Nat.{ℕ, _-_}
 use native.Mathlib.Omega.{arith}
 use native.Mathlib.Nat.{sub-zero}
-use mathlib.Core.Path.{_≡_, refl, sym, ap, _∙_}
-use mathlib.Core.List.{List, [], _∷_}
+use mathlib.Core.Path.{_≡_, refl, sym, ap, ap₂, _∙_}
+use mathlib.Core.List.{List, [], _∷_, _++_}
 use mathlib.Core.Bool.{Bool, true, false, cond, _||_, _&&_, not}
-use lib.ListN.{length, getD, take, replicate, length-replicate, drop-of-length-le}
+use lib.ListN.{length, getD, take, replicate, length-replicate, take-append-drop}
 use lib.Dec.{eqb, leb, ltb}
 use borrow.Author.Tests.{eq-eqb, eqb-true}
 use Rattle.base_digits.specs.digits.Figures.{blanks, unpadded, valueFrom, limit}
@@ -22,7 +22,7 @@ use Rattle.value_coordinate.specs.angle.Angles.{unitsOf, partsOf as partsIn, ar
 use Rattle.value_coordinate.specs.axes.Axes.{boundOf, letterOf}
 use Rattle.value_coordinate.specs.declared.angle.Parts.{Parts}
 use Rattle.value_coordinate.specs.grid.Grid.{presentOf, gridOf}
-use Rattle.value_text.specs.text.Texts.{textEnd, leadingBlank}
+use Rattle.value_text.specs.text.Texts.{textEnd, textOf, leadingBlank}
 use Rattle.value_text.proofs.text.Back.{end-blanks}
 use Rattle.value_text.proofs.text.Agreed.{blank-behind}
 use Rattle.base_value.specs.declared.Value.the-variants.{Absent, Whole, Decimal, Angle, Date, Text}
@@ -30,7 +30,7 @@ use Rattle.base_value.specs.declared.Reading.{Reading}
 use Rattle.base_value.specs.declared.Reading.the-variants.{Held, Malformed, OutOfRange}
 use Rattle.value_field.specs.declared.spelling.Spelling.{Spelling}
 use Rattle.value_field.specs.declared.spelling.Spelling.the-variants as spelled
-use Rattle.value_field.specs.spelling.Reading.{textReading, wholeReading, readingOf}
+use Rattle.value_field.specs.spelling.Reading.{textReading, numberIn, wholeReading, readingOf}
 
 -- no number is absent where there is anything
 held-present : (minus : Bool) (f : Figures) → heldOf minus f ≡ Held Absent → ⊥
@@ -77,9 +77,9 @@ module _ (w : ℕ) where
   unfolding textReading
   text-blank lead = rw no-text
 
-  number-blank : (point : Bool) → numberOf point (blankIn w) ≡ Held Absent
-  unfolding numberOf unpadded signOf
-  number-blank point = rw (blank-all w, drop-of-length-le (blankIn w) {i = w} (rw (length-replicate {A = ℕ} w 32) (omega arith)))
+  number-blank : (point : Bool) → numberIn point (blankIn w) ≡ Held Absent
+  unfolding numberIn textOf numberOf unpadded blanks signOf
+  number-blank point = rw no-text
 
   date-blank : dateOf (blankIn w) ≡ Held Absent
   unfolding dateOf
@@ -107,6 +107,9 @@ module _ (w : ℕ) where
 
 -- nothing else is absent
 module _ (s : List ℕ) where
+  nothing-there : textEnd s ≡ 0 → s ≡ blankIn (length s)
+  nothing-there z = rw (z, sub-zero (length s)) at (blank-behind s)
+
   text-absent : (lead : Bool) → textReading lead s ≡ Held Absent → s ≡ blankIn (length s)
   unfolding textReading
   text-absent lead e = go (eqb (textEnd s) 0) refl (lead || not (leadingBlank s)) e
@@ -114,9 +117,7 @@ module _ (s : List ℕ) where
       go : (b : Bool) → eqb (textEnd s) 0 ≡ b → (c : Bool)
           → cond b (Held Absent) (cond c (Held (Text (record { first = 1; last = textEnd s }))) Malformed) ≡ Held Absent
           → s ≡ blankIn (length s)
-      go true q c h =
-          let z : textEnd s ≡ 0 = eqb-true (textEnd s) 0 q in
-          rw (z, sub-zero (length s)) at (blank-behind s)
+      go true q c h = nothing-there (eqb-true (textEnd s) 0 q)
       go false q true h = let x : _≡_ {A = ℕ} 0 1 = cc in absurd (omega arith)
       go false q false h = let x : _≡_ {A = ℕ} 0 1 = cc in absurd (omega arith)
 
@@ -131,8 +132,14 @@ module _ (s : List ℕ) where
   whole-absent Malformed e = cc
   whole-absent OutOfRange e = cc
 
-  number-none : (point : Bool) → numberOf point s ≡ Held Absent → s ≡ blankIn (length s)
-  number-none point e = all-blank s (unpadded-none s (absent-blank point s e))
+  number-none : (point : Bool) → numberIn point s ≡ Held Absent → s ≡ blankIn (length s)
+  unfolding numberIn textOf textEnd
+  number-none point e =
+      let n = take (textEnd s) s in
+      let b = all-blank n (unpadded-none n (absent-blank point n e)) in
+      let k = length s - textEnd s in
+      let all : s ≡ blankIn (length n) ++ blankIn k = sym (take-append-drop (textEnd s) s) ∙ ap₂ (λ (x y : List ℕ). x ++ y) b (blank-behind s) in
+      nothing-there (ap textEnd all ∙ end-blanks (blankIn (length n)) k ∙ end-blanks [] (length n))
 
   -- a date, an angle or a grid coordinate is absent only by the test that all is blank
   blank-test : {A : Type 0} (none odd held : A) (c : Bool) → (odd ≡ none → ⊥) → (held ≡ none → ⊥)
@@ -187,7 +194,7 @@ module _ (s : List ℕ) where
   unfolding readingOf
   absent-only spelled.Text e = text-absent false e
   absent-only spelled.Comment e = text-absent true e
-  absent-only spelled.Whole e = number-none false (whole-absent (numberOf false s) e)
+  absent-only spelled.Whole e = number-none false (whole-absent (numberIn false s) e)
   absent-only spelled.Decimal e = number-none true e
   absent-only spelled.Date e = date-none e
   absent-only spelled.Latitude e = angle-none Y e

@@ -21,6 +21,8 @@ use Rattle.value_coordinate.specs.declared.angle.Parts.{Parts}
 use Rattle.value_coordinate.specs.angle.Angles.{unitsOf, partsOf, arcOf, isSpelled, angledOf, angleOf}
 use Rattle.value_coordinate.specs.axes.Axes.{boundOf, letterOf}
 use Rattle.value_coordinate.specs.grid.Grid.{presentOf, gridOf}
+use Rattle.value_text.specs.text.Texts.{textOf}
+use Rattle.value_field.specs.spelling.Reading.{numberIn}
 
 -- what holds of blanks, of every value of the kind, and of both ways to be none, holds of the reading
 abbrev pub OfKind : {A : Type 0} → (A → Value) → Reading → Type 1
@@ -44,6 +46,10 @@ sign-kind point (b ∷ t) P a k m o =
 pub number-kind : (point : Bool) (s : List ℕ) → OfKind Decimal (numberOf point s)
 unfolding numberOf
 number-kind point s = sign-kind point (unpadded s)
+
+pub number-in-kind : (point : Bool) (s : List ℕ) → OfKind Decimal (numberIn point s)
+unfolding numberIn
+number-in-kind point s = number-kind point (textOf s)
 
 dated-kind : (d : DateOf) → OfKind Date (datedOf d)
 unfolding datedOf

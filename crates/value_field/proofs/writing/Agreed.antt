@@ -8,7 +8,6 @@ use lib.Dec.{eqb}
 use borrow.Author.Tests.{eqb-false}
 use Rattle.base_digits.specs.digits.Columns.{Entry, agreed, roomOf}
 use Rattle.base_value.specs.declared.Decimal.{Decimal as DecimalOf}
-use Rattle.value_number.specs.number.Reading.{numberOf}
 use Rattle.value_number.specs.number_entry.Spelling.{decimalIn}
 use Rattle.value_number.proofs.number_entry.Agreed.{decimal-agreed, whole-places}
 use Rattle.value_date.specs.Dates.{dateOf}
@@ -28,11 +27,12 @@ use Rattle.base_value.specs.declared.Reading.{Reading}
 use Rattle.base_value.specs.declared.Reading.the-variants.{Held, Malformed}
 use Rattle.value_field.specs.declared.spelling.Spelling.{Spelling}
 use Rattle.value_field.specs.declared.spelling.Spelling.the-variants as spelled
-use Rattle.value_field.specs.spelling.Reading.{textReading, wholeReading, readingOf, isText}
+use Rattle.value_field.specs.spelling.Reading.{textReading, numberIn, wholeReading, readingOf, misplacedIn, isText}
 use Rattle.value_field.specs.writing.Writing.{noValueIn, wholeIn, unitsIn, dayIn, arcIn, gridEntryIn, entryOf, textEntryOf, againIn, rewrittenOf}
-use Rattle.value_field.proofs.spelling.OneKind.{OfKind, number-kind, date-kind, angle-kind, grid-kind}
+use Rattle.value_field.proofs.spelling.OneKind.{OfKind, number-in-kind, date-kind, angle-kind, grid-kind}
 use Rattle.value_field.proofs.spelling.Absence.{zero-one}
-use Rattle.value_field.proofs.writing.Back.{value-back}
+use Rattle.value_field.proofs.spelling.Standing.{stretch-le}
+use Rattle.value_field.proofs.writing.Back.{value-back, value-placed}
 
 -- a text that it agrees to
 abbrev Agrees : Entry → Type 0
@@ -50,10 +50,10 @@ module _ (s : List ℕ) where
       (λ q. absurd (zero-one cc))
       refl
 
-  whole-agrees : (v : Value) → wholeReading (numberOf false s) ≡ Held v → Agrees (wholeIn (length s) v)
-  unfolding wholeReading wholeIn
+  whole-agrees : (v : Value) → wholeReading (numberIn false s) ≡ Held v → Agrees (wholeIn (length s) v)
+  unfolding wholeReading wholeIn numberIn
   whole-agrees v e =
-      number-kind false s (λ n. numberOf false s ≡ n → wholeReading n ≡ Held v → Agrees (wholeIn (length s) v))
+      number-in-kind false s (λ n. numberIn false s ≡ n → wholeReading n ≡ Held v → Agrees (wholeIn (length s) v))
       (λ q h. let i : Absent ≡ v = cc in subst (λ x. Agrees (wholeIn (length s) x)) i (_, refl))
       (λ d q h. let i : Whole (d .units) ≡ v = cc in subst (λ x. Agrees (wholeIn (length s) x)) i (room d q))
       (λ q h. absurd (zero-one cc))
@@ -61,16 +61,16 @@ module _ (s : List ℕ) where
       refl
       e
     where
-      room : (d : DecimalOf) → numberOf false s ≡ Held (Decimal d) → Agrees (roomOf (decimalIn (length s) (record { units = d .units; places = 0 })))
+      room : (d : DecimalOf) → numberIn false s ≡ Held (Decimal d) → Agrees (roomOf (decimalIn (length s) (record { units = d .units; places = 0 })))
       room d q =
-          let u = decimal-agreed false s d q in
-          (u .0, ap (λ p. roomOf (decimalIn (length s) (record { units = d .units; places = p }))) (sym (whole-places s d q)) ∙ ap roomOf (u .1))
+          let u = decimal-agreed false (textOf s) d q (length s) (stretch-le s) in
+          (u .0, ap (λ p. roomOf (decimalIn (length s) (record { units = d .units; places = p }))) (sym (whole-places (textOf s) d q)) ∙ ap roomOf (u .1))
 
-  decimal-agrees : (v : Value) → numberOf true s ≡ Held v → Agrees (unitsIn (length s) v)
-  unfolding unitsIn
+  decimal-agrees : (v : Value) → numberIn true s ≡ Held v → Agrees (unitsIn (length s) v)
+  unfolding unitsIn numberIn
   decimal-agrees =
-      kind-agrees Decimal (unitsIn (length s)) (numberOf true s) (number-kind true s) (_, refl)
-      (λ d q. let u = decimal-agreed true s d q in (u .0, ap roomOf (u .1)))
+      kind-agrees Decimal (unitsIn (length s)) (numberIn true s) (number-in-kind true s) (_, refl)
+      (λ d q. let u = decimal-agreed true (textOf s) d q (length s) (stretch-le s) in (u .0, ap roomOf (u .1)))
 
   grid-agrees : (a : Axis) (v : Value) → gridOf a s ≡ Held v → Agrees (gridEntryIn a (length s) v)
   unfolding gridEntryIn
@@ -128,12 +128,13 @@ pub one-spelling : (k : Spelling) (s t : List ℕ) (v : Value) → readingOf k s
     → length s ≡ length t → rewrittenOf k s ≡ rewrittenOf k t
 one-spelling k s t v e f n l = rewritten-is k s v e n ∙ ap (λ w. entryOf k w v) l ∙ sym (rewritten-is k t v f n)
 
--- what rewriting leaves: columns of the same width that say the same, and that rewriting leaves as they are
+-- what rewriting leaves: columns of the same width that say the same, with no blank behind it, and that rewriting leaves as they are
 pub record Rewritten (k : Spelling) (s : List ℕ) (v : Value) : Type 0 where
   pub columns : List ℕ
   pub rewritten : rewrittenOf k s ≡ agreed columns
   pub says : readingOf k columns ≡ Held v
   pub width : length columns ≡ length s
+  pub placed : misplacedIn k columns ≡ false
   pub once : rewrittenOf k columns ≡ agreed columns
 
 pub value-rewritten : (k : Spelling) (s : List ℕ) (v : Value) → readingOf k s ≡ Held v → isText (Held v) ≡ false → Rewritten k s v
@@ -146,6 +147,7 @@ value-rewritten k s v e n =
       rewritten = r;
       says = b .0;
       width = b .1;
+      placed = value-placed (length s) (a .0) k v (a .1);
       once = one-spelling k (a .0) s v (b .0) e n (b .1) ∙ r;
     }
 
@@ -164,10 +166,10 @@ text-agrees lead k q s v e n p = go (eqb (textEnd s) 0) refl (lead || not (leadi
 
 -- no other reading is a text
 module _ (c : Columns) where
-  no-whole : (s : List ℕ) → wholeReading (numberOf false s) ≡ Held (Text c) → ⊥
+  no-whole : (s : List ℕ) → wholeReading (numberIn false s) ≡ Held (Text c) → ⊥
   unfolding wholeReading
   no-whole s =
-      number-kind false s (λ n. wholeReading n ≡ Held (Text c) → ⊥) (λ e. zero-one cc) (λ d e. zero-one cc) (λ e. zero-one cc) (λ e. zero-one cc)
+      number-in-kind false s (λ n. wholeReading n ≡ Held (Text c) → ⊥) (λ e. zero-one cc) (λ d e. zero-one cc) (λ e. zero-one cc) (λ e. zero-one cc)
 
   no-text : {A : Type 0} (kind : A → Value) (r : Reading) → OfKind kind r → ((x : A) → Held (kind x) ≡ Held (Text c) → ⊥) → r ≡ Held (Text c) → ⊥
   no-text kind r of-kind other = of-kind (λ n. n ≡ Held (Text c) → ⊥) (λ e. zero-one cc) other (λ e. zero-one cc) (λ e. zero-one cc)
@@ -177,7 +179,7 @@ module _ (c : Columns) where
   text-entry spelled.Text s e p = text-agrees false spelled.Text (λ w x. refl) s (Text c) e refl p
   text-entry spelled.Comment s e p = text-agrees true spelled.Comment (λ w x. refl) s (Text c) e refl p
   text-entry spelled.Whole s e p = absurd (no-whole s e)
-  text-entry spelled.Decimal s e p = absurd (no-text Decimal (numberOf true s) (number-kind true s) (λ d h. zero-one cc) e)
+  text-entry spelled.Decimal s e p = absurd (no-text Decimal (numberIn true s) (number-in-kind true s) (λ d h. zero-one cc) e)
   text-entry spelled.Date s e p = absurd (no-text Date (dateOf s) (date-kind s) (λ d h. zero-one cc) e)
   text-entry spelled.Latitude s e p = absurd (no-text Angle (angleOf Y s) (angle-kind Y s) (λ z h. zero-one cc) e)
   text-entry spelled.Longitude s e p = absurd (no-text Angle (angleOf X s) (angle-kind X s) (λ z h. zero-one cc) e)

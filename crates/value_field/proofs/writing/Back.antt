@@ -1,8 +1,8 @@
 -- What an entry agreed to write reads back as the same value, in the same width.
 use Prim.Native.Nat.{ℕ, _≤_}
 use native.Mathlib.Omega.{arith}
-use mathlib.Core.Path.{_≡_, refl, ap, subst, _∙_}
-use mathlib.Core.List.{List}
+use mathlib.Core.Path.{_≡_, refl, sym, ap, subst, _∙_}
+use mathlib.Core.List.{List, []}
 use mathlib.Core.Bool.{Bool, true, false}
 use mathlib.Core.Option.{Option, none, some}
 use lib.ListN.{length, replicate, length-replicate}
@@ -19,16 +19,18 @@ use Rattle.value_coordinate.specs.grid.Grid.{gridOf}
 use Rattle.value_coordinate.proofs.coordinate_entry.ArcBack.{angle-back}
 use Rattle.value_coordinate.proofs.coordinate_entry.GridBack.{grid-back}
 use Rattle.value_text.specs.text.Texts.{textEnd}
-use Rattle.value_text.proofs.text.Back.{PutText, text-back}
+use Rattle.value_text.proofs.text.Back.{PutText, text-back, end-blanks}
+use Rattle.base_value.specs.declared.Decimal.{Decimal as DecimalOf}
 use Rattle.base_value.specs.declared.Value.{Value}
 use Rattle.base_value.specs.declared.Value.the-variants.{Absent, Whole, Decimal, Angle, Date, Text}
 use Rattle.base_value.specs.declared.Reading.{Reading}
 use Rattle.base_value.specs.declared.Reading.the-variants.{Held}
 use Rattle.value_field.specs.declared.spelling.Spelling.{Spelling}
 use Rattle.value_field.specs.declared.spelling.Spelling.the-variants as spelled
-use Rattle.value_field.specs.spelling.Reading.{textReading, wholeReading, readingOf, isText, textRead}
+use Rattle.value_field.specs.spelling.Reading.{textReading, pushedLeft, wholeReading, readingOf, misplacedIn, isText, textRead}
 use Rattle.value_field.specs.writing.Writing.{blanked, noValueIn, wholeIn, unitsIn, dayIn, arcIn, gridEntryIn, entryOf, textEntryOf}
 use Rattle.value_field.proofs.spelling.Absence.{blank-read}
+use Rattle.value_field.proofs.spelling.Standing.{strict-alike, strict-placed, blank-placed}
 
 -- what t says is v, and t is w columns wide
 abbrev pub ReadsBack : (List ℕ → Reading) → ℕ → Value → List ℕ → Type 0
@@ -61,7 +63,7 @@ module _ (w : ℕ) (t : List ℕ) where
   whole-back Absent e = blank-back spelled.Whole e
   whole-back (Whole z) e =
       let b = number-back false w (record { units = z; places = 0 }) t (λ (h : 1 ≤ 0). absurd (omega arith)) (room-is (decimalIn w (record { units = z; places = 0 })) t e) in
-      (ap wholeReading (b .0), b .1)
+      (ap wholeReading (strict-alike false t _ (b .0)), b .1)
   whole-back (Decimal d) e = absurd (never e)
   whole-back (Angle z) e = absurd (never e)
   whole-back (Date d) e = absurd (never e)
@@ -71,7 +73,9 @@ module _ (w : ℕ) (t : List ℕ) where
   unfolding unitsIn readingOf
   decimal-back Absent e = blank-back spelled.Decimal e
   decimal-back (Whole z) e = absurd (never e)
-  decimal-back (Decimal d) e = number-back true w d t (λ h. refl) (room-is (decimalIn w d) t e)
+  decimal-back (Decimal d) e =
+      let b = number-back true w d t (λ h. refl) (room-is (decimalIn w d) t e) in
+      (strict-alike true t d (b .0), b .1)
   decimal-back (Angle z) e = absurd (never e)
   decimal-back (Date d) e = absurd (never e)
   decimal-back (Text c) e = absurd (never e)
@@ -118,11 +122,63 @@ module _ (w : ℕ) (t : List ℕ) where
   value-back spelled.Northing v e = grid-entry-back spelled.Northing Y (λ s. refl) v e
   value-back spelled.Easting v e = grid-entry-back spelled.Easting X (λ s. refl) v e
 
+-- a value that was written is not misplaced
+module _ (w : ℕ) (t : List ℕ) where
+  blank-left : blanked w ≡ agreed t → pushedLeft t ≡ false
+  unfolding textEnd
+  blank-left e = blank-placed t (let q : replicate w 32 ≡ t = cc in ap textEnd (sym q) ∙ end-blanks [] w)
+
+  decimal-left : (point : Bool) (d : DecimalOf) → (1 ≤ d .places → point ≡ true) → roomOf (decimalIn w d) ≡ agreed t → pushedLeft t ≡ false
+  decimal-left point d l e = strict-placed point t d (number-back point w d t l (room-is (decimalIn w d) t e) .0)
+
+  whole-left : (v : Value) → wholeIn w v ≡ agreed t → pushedLeft t ≡ false
+  unfolding wholeIn
+  whole-left Absent e = blank-left e
+  whole-left (Whole z) e = decimal-left false (record { units = z; places = 0 }) (λ (h : 1 ≤ 0). absurd (omega arith)) e
+  whole-left (Decimal d) e = absurd (never e)
+  whole-left (Angle z) e = absurd (never e)
+  whole-left (Date d) e = absurd (never e)
+  whole-left (Text c) e = absurd (never e)
+
+  units-left : (v : Value) → unitsIn w v ≡ agreed t → pushedLeft t ≡ false
+  unfolding unitsIn
+  units-left Absent e = blank-left e
+  units-left (Whole z) e = absurd (never e)
+  units-left (Decimal d) e = decimal-left true d (λ h. refl) e
+  units-left (Angle z) e = absurd (never e)
+  units-left (Date d) e = absurd (never e)
+  units-left (Text c) e = absurd (never e)
+
+  pub value-placed : (k : Spelling) (v : Value) → entryOf k w v ≡ agreed t → misplacedIn k t ≡ false
+  unfolding entryOf misplacedIn
+  value-placed spelled.Text v e = refl
+  value-placed spelled.Comment v e = refl
+  value-placed spelled.Whole v e = whole-left v e
+  value-placed spelled.Decimal v e = units-left v e
+  value-placed spelled.Date v e = refl
+  value-placed spelled.Latitude v e = refl
+  value-placed spelled.Longitude v e = refl
+  value-placed spelled.Northing v e = refl
+  value-placed spelled.Easting v e = refl
+
 -- a text that was put is the text handed back
 put-read : (k : Spelling) (lead : Bool) → ((s : List ℕ) → readingOf k s ≡ textReading lead s) → (w : ℕ) (x t : List ℕ) → PutText lead w x t
     → (textRead k t ≡ x) × (length t ≡ w)
 unfolding textRead textReading isText
 put-read k lead q w x t p = (rw (q t, ne-eqb (textEnd t) 0 (p .some), p .front) (p .text), p .width)
+
+-- and is no misplaced number
+pub text-placed : (k : Spelling) (w : ℕ) (x t : List ℕ) → textEntryOf k w x ≡ agreed t → misplacedIn k t ≡ false
+unfolding textEntryOf misplacedIn
+text-placed spelled.Text w x t e = refl
+text-placed spelled.Comment w x t e = refl
+text-placed spelled.Whole w x t e = absurd (never e)
+text-placed spelled.Decimal w x t e = absurd (never e)
+text-placed spelled.Date w x t e = refl
+text-placed spelled.Latitude w x t e = refl
+text-placed spelled.Longitude w x t e = refl
+text-placed spelled.Northing w x t e = refl
+text-placed spelled.Easting w x t e = refl
 
 pub text-read-back : (k : Spelling) (w : ℕ) (x t : List ℕ) → textEntryOf k w x ≡ agreed t → (textRead k t ≡ x) × (length t ≡ w)
 unfolding textEntryOf readingOf

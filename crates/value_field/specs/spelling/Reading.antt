@@ -1,8 +1,9 @@
 -- What stands in the columns of one field, for each of the paper's spellings.
 use Prim.Native.Nat.{ℕ}
 use mathlib.Core.List.{List, []}
-use mathlib.Core.Bool.{Bool, true, false, cond, _||_, not}
-use lib.Dec.{eqb}
+use mathlib.Core.Bool.{Bool, true, false, cond, _&&_, _||_, not}
+use lib.Dec.{eqb, ltb}
+use lib.ListN.{length}
 use Rattle.value_number.specs.number.Reading.{numberOf}
 use Rattle.value_date.specs.Dates.{dateOf}
 use Rattle.value_coordinate.specs.declared.axes.Axis.the-variants.{Y, X}
@@ -21,6 +22,14 @@ textReading lead s =
     cond (eqb (textEnd s) 0) (Held Absent)
     (cond (lead || not (leadingBlank s)) (Held (Text (record { first = 1; last = textEnd s }))) Malformed)
 
+-- I, N: a number, which blanks may follow; one that has none behind it is read by the strict rule, as in a grid coordinate
+unfoldable pub numberIn : Bool → List ℕ → Reading
+numberIn pointed s = numberOf pointed (textOf s)
+
+-- blanks follow it: the columns are not blank, and the last of them is
+unfoldable pub pushedLeft : List ℕ → Bool
+pushedLeft s = ltb 0 (textEnd s) && ltb (textEnd s) (length s)
+
 -- I: a number without places
 unfoldable pub wholeReading : Reading → Reading
 wholeReading (Held Absent) = Held Absent
@@ -36,13 +45,29 @@ wholeReading OutOfRange = OutOfRange
 unfoldable pub readingOf : Spelling → List ℕ → Reading
 readingOf spelled.Text s = textReading false s
 readingOf spelled.Comment s = textReading true s
-readingOf spelled.Whole s = wholeReading (numberOf false s)
-readingOf spelled.Decimal s = numberOf true s
+readingOf spelled.Whole s = wholeReading (numberIn false s)
+readingOf spelled.Decimal s = numberIn true s
 readingOf spelled.Date s = dateOf s
 readingOf spelled.Latitude s = angleOf Y s
 readingOf spelled.Longitude s = angleOf X s
 readingOf spelled.Northing s = gridOf Y s
 readingOf spelled.Easting s = gridOf X s
+
+-- the spellings in which blanks may follow: never a text, a date or a coordinate
+abbrev pub isNumber : Spelling → Bool
+isNumber spelled.Text = false
+isNumber spelled.Comment = false
+isNumber spelled.Whole = true
+isNumber spelled.Decimal = true
+isNumber spelled.Date = false
+isNumber spelled.Latitude = false
+isNumber spelled.Longitude = false
+isNumber spelled.Northing = false
+isNumber spelled.Easting = false
+
+-- a field's columns hold a number that is misplaced
+unfoldable pub misplacedIn : Spelling → List ℕ → Bool
+misplacedIn k s = isNumber k && pushedLeft s
 
 -- whether a reading is a text
 unfoldable pub isText : Reading → Bool

@@ -1,4 +1,4 @@
--- What was read can always be rewritten in the same width.
+-- What was read can always be rewritten in the same width, or in a larger one.
 use Prim.Native.Nat.{ℕ, zero, suc, _+_, _-_, _*_, _^_, _≤_, _<_, max}
 use native.Mathlib.Omega.{arith}
 use native.Mathlib.Nat.{zero-add, add-zero, one-mul, lt-of-lt-of-le, mul-le-mul-right}
@@ -185,15 +185,15 @@ module _ (w : ℕ) (d : Decimal) (r : Read w d) where
       go (some t) = (t, refl)
       go none = (_, adjusted-some w (isMinus (d .units)) _ (d .places) (natAbs (d .units)) _ refl narrow)
 
--- what was read as a number can be written in the same width
-pub decimal-agreed : (point : Bool) (s : List ℕ) (d : Decimal) → numberOf point s ≡ Held (value.Decimal d)
-    → (t : List ℕ) × (decimalIn (length s) d ≡ some t)
+-- what was read as a number can be written wherever its columns have room
+pub decimal-agreed : (point : Bool) (s : List ℕ) (d : Decimal) → numberOf point s ≡ Held (value.Decimal d) → (w : ℕ) → length s ≤ w
+    → (t : List ℕ) × (decimalIn w d ≡ some t)
 unfolding numberOf unpadded decimalIn
-decimal-agreed point s d e =
-    let small : length (drop (blanks s) s) ≤ length s = rw (length-drop (blanks s) s) (omega arith) in
-    let r = wider (length (drop (blanks s) s)) (length s) d small (sign-read point (drop (blanks s) s) d e) in
-    let u = units-agreed (length s) d r in
-    (u .0, rw (lt-ltb (natAbs (d .units)) limit (number-small (length s) d r)) (u .1))
+decimal-agreed point s d e w h =
+    let small : length (drop (blanks s) s) ≤ w = rw (length-drop (blanks s) s) (omega arith) in
+    let r = wider (length (drop (blanks s) s)) w d small (sign-read point (drop (blanks s) s) d e) in
+    let u = units-agreed w d r in
+    (u .0, rw (lt-ltb (natAbs (d .units)) limit (number-small w d r)) (u .1))
   where
     wider : (v w : ℕ) (d : Decimal) → v ≤ w → Read v d → Read w d
     wider v w d h r =

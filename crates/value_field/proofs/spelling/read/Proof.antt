@@ -26,8 +26,8 @@ enum-told-3 : tie.Need-enum-told-3
 enum-told-3 c = search needs
 
 -- src/lib.rt:121:37
-read-number-requires : tie.Need-read-number-requires
-read-number-requires c κs = search needs
+number-in-requires : tie.Need-number-in-requires
+number-in-requires c κs = search needs
 
 -- src/lib.rt:121:28
 whole-of-requires : tie.Need-whole-of-requires
@@ -38,8 +38,8 @@ enum-told-4 : tie.Need-enum-told-4
 enum-told-4 c = search needs
 
 -- src/lib.rt:122:41
-read-number-requires-2 : tie.Need-read-number-requires-2
-read-number-requires-2 c κs = search needs
+number-in-requires-2 : tie.Need-number-in-requires-2
+number-in-requires-2 c κs = search needs
 
 -- src/lib.rt:123:35
 enum-told-5 : tie.Need-enum-told-5
@@ -94,12 +94,12 @@ returns-2 c = c .text-in2 .ensures ∙ sym (ap (λ k. readingOf k (now (c .befor
 -- src/lib.rt:115:1
 returns-3 : tie.Need-returns-3
 unfolding readingOf
-returns-3 c = c .whole-of .ensures ∙ ap wholeReading (c .before .read-number .ensures) ∙ sym (ap (λ k. readingOf k (now (c .before .before .before .before .before .args .s))) (c .before .before .enum-told3 .given .1))
+returns-3 c = c .whole-of .ensures ∙ ap wholeReading (c .before .number-in .ensures) ∙ sym (ap (λ k. readingOf k (now (c .before .before .before .before .before .args .s))) (c .before .before .enum-told3 .given .1))
 
 -- src/lib.rt:115:1
 returns-4 : tie.Need-returns-4
 unfolding readingOf
-returns-4 c = c .read-number2 .ensures ∙ sym (ap (λ k. readingOf k (now (c .before .before .before .before .args .s))) (c .before .enum-told4 .given .1))
+returns-4 c = c .number-in2 .ensures ∙ sym (ap (λ k. readingOf k (now (c .before .before .before .before .args .s))) (c .before .enum-told4 .given .1))
 
 -- src/lib.rt:115:1
 returns-5 : tie.Need-returns-5
@@ -135,10 +135,10 @@ read-spec =
     enum-told-2
     text-in-requires-2
     enum-told-3
-    read-number-requires
+    number-in-requires
     whole-of-requires
     enum-told-4
-    read-number-requires-2
+    number-in-requires-2
     enum-told-5
     read-date-requires
     enum-told-6
