@@ -23,7 +23,7 @@ ghost use lib.Dec.{T};
 ghost use lib.ListN.{length};
 ghost use Rattle.value_field.specs.spelling.Reading.{textReading, wholeReading, readingOf};
 ghost use Rattle.base_digits.specs.digits.Figures.{limit};
-ghost use Rattle.value_number.specs.number.Reading.{numberOf as numberIn};
+ghost use Rattle.value_number.specs.number.Reading.{numberOf as strictOf};
 ghost use Rattle.value_number.specs.packed.Shapes.{sizeOf};
 ghost use Rattle.format_layout.specs.ranges.Ranges.{inRange};
 ghost use Rattle.format_layout.specs.packed.Rows.{unpack};
@@ -65,7 +65,7 @@ fn range_offence(row: u64, value: i64) -> usize
 // The offence of a whole number that is needed, by its size.
 fn whole_offence(size: u64, row: u64) -> usize
     requires { ⌜ size ≤ limit + 3 ⌝ }
-    ensures { λ r. ⌜ ((s : List ℕ) → size ≡ sizeOf (numberIn false s) → r ≡ offenceIn (unpack row) (wholeReading (numberIn false s))) ⌝ }
+    ensures { λ r. ⌜ ((s : List ℕ) → size ≡ sizeOf (strictOf false s) → r ≡ offenceIn (unpack row) (wholeReading (strictOf false s))) ⌝ }
 {
     if shapes::ZERO <= size {
         return range_offence(row, (size - shapes::ZERO) as i64);
@@ -116,8 +116,8 @@ fn offence_in(s: &[u8], row: u64, form: Form) -> usize
     match fields::kind_of(row) {
         Kind::Text => text_offence(s, false),
         Kind::Comment => text_offence(s, true),
-        Kind::Whole => whole_offence(shapes::whole_size(s), row),
-        Kind::Decimal => shapes::decimal_shape(s),
+        Kind::Whole => whole_offence(shapes::whole_size(text::stretch(s)), row),
+        Kind::Decimal => shapes::decimal_shape(text::stretch(s)),
         Kind::Date => read_offence(value_date::read_date(s)),
         Kind::Latitude => coordinate_offence(s, Axis::Y, form),
         Kind::Longitude => coordinate_offence(s, Axis::X, form),

@@ -3,7 +3,7 @@ use Prim.Native.Nat.{ℕ, _-_, _≤_}
 use native.Mathlib.Omega.{arith}
 use mathlib.Core.Path.{_≡_, refl}
 use mathlib.Core.List.{List, [], _∷_}
-use mathlib.Core.Bool.{true, false}
+use mathlib.Core.Bool.{Bool, true, false}
 use lib.ListN.{length, take, drop}
 use denote.Enum.Declared.{tagOf}
 use types.Run.{OneOf, miss}
@@ -24,7 +24,7 @@ use Rattle.base_refusal.specs.Refusals.{refusal}
 use Rattle.card_field.specs.seeking.Card.{soughtOf, wayFor}
 use Rattle.format_layout.proofs.Numbers.{found-lies}
 use Rattle.card_field.proofs.seeking.Steps.{found-there, way-refused}
-use Rattle.card_field.specs.judging.Fields.{judgedOf}
+use Rattle.card_field.specs.judging.Fields.{judgedOf, misplacedOn}
 use Rattle.card_field.specs.needing.Needs.{columnsOf}
 use Rattle.card_field.specs.declared.FieldRead.the-variants as read
 use Rattle.card_field.specs.Reading.{answeredOf, fieldOn, fieldReading, holdsText, textOn, fieldText}
@@ -38,15 +38,16 @@ found-fits s n form k f q =
     (h .whole, omega (arith, l .after), l .forward, l .on-card)
 
 -- the answer for a field, at its first column
-pub answered-not : (f : Field) (j : Judged) (n column : ℕ) → j ≡ judged.Not n → column ≡ f .first → read.Refused (refusal n 1 column) ≡ answeredOf f j
+pub answered-not : (f : Field) (b : Bool) (j : Judged) (n column : ℕ) → j ≡ judged.Not n → column ≡ f .first
+    → read.Refused (refusal n 1 column) ≡ answeredOf f b j
 unfolding answeredOf
-answered-not f j n column q e = rw (q, e)
+answered-not f b j n column q e = rw (q, e)
 
 -- what reading a field puts together
 pub reading-is : (s : List ℕ) (n form k : ℕ) (f : Field) → soughtOf s n form ≡ Is k f → (j : Judged) → j ≡ judgedOf k s f (formNumbered form)
-    → answeredOf f j ≡ fieldReading s n form
+    → (b : Bool) → b ≡ misplacedOn s f (formNumbered form) → answeredOf f b j ≡ fieldReading s n form
 unfolding fieldReading fieldOn
-reading-is s n form k f q j e = rw (q, e)
+reading-is s n form k f q j e b m = rw (q, e, m)
 
 -- whether a field says a text, and the text
 pub text-not : (j : Judged) → OneOf (1 ∷ []) (tagOf judged-type j) → holdsText j ≡ false

@@ -15,17 +15,17 @@ use Rattle.card_field.specs.declared.FieldRead.{FieldRead}
 use Rattle.card_field.specs.declared.FieldRead.the-variants as read
 use Rattle.base_refusal.specs.Refusals.{refusal}
 use Rattle.card_field.specs.seeking.Card.{soughtOf}
-use Rattle.card_field.specs.judging.Fields.{judgedOf}
+use Rattle.card_field.specs.judging.Fields.{judgedOf, misplacedOn}
 use Rattle.card_field.specs.needing.Needs.{columnsOf}
 
--- the offence of a field stands at its first column
-unfoldable pub answeredOf : Field → Judged → FieldRead
-answeredOf f (Is v) = read.Is v
-answeredOf f (Not n) = read.Refused (refusal n 1 (f .first))
+-- the value and whether it is misplaced; the offence of a field stands at its first column
+unfoldable pub answeredOf : Field → Bool → Judged → FieldRead
+answeredOf f misplaced (Is v) = read.Is v misplaced
+answeredOf f misplaced (Not n) = read.Refused (refusal n 1 (f .first))
 
 unfoldable pub fieldOn : List ℕ → Form → Sought → FieldRead
 fieldOn s form (sought.Refused r) = read.Refused r
-fieldOn s form (sought.Is k f) = answeredOf f (judgedOf k s f form)
+fieldOn s form (sought.Is k f) = answeredOf f (misplacedOn s f form) (judgedOf k s f form)
 
 -- the reading of one field of a card
 unfoldable pub fieldReading : List ℕ → ℕ → ℕ → FieldRead

@@ -16,7 +16,7 @@ ghost use mathlib.Core.Path.{_≡_};
 ghost use Prim.Native.Nat.{_≤_};
 ghost use lib.ListN.{length};
 ghost use Rattle.format_layout.specs.packed.Rows.{unpack};
-ghost use Rattle.card_field.specs.judging.Fields.{spellingOf, textLast, readLast, valueOf, heldOf, judgedOf};
+ghost use Rattle.card_field.specs.judging.Fields.{spellingOf, textLast, readLast, valueOf, heldOf, judgedOf, misplacedOn};
 
 // What a field says, or the number of its offence.
 pub enum Judged {
@@ -98,4 +98,13 @@ pub fn judge(card: &[u8], layout: usize, row: u64, form: Form) -> Judged
     let columns = needing::columns(card, fields::first_of(row), fields::last_of(row));
     let reading = spelling::read(columns, spelling_of(fields::kind_of(row), form));
     held_of(needing::needed_on(card, layout, row), row, reading)
+}
+
+// Whether the field that a row holds has a misplaced number on a card.
+pub fn is_misplaced(card: &[u8], row: u64, form: Form) -> bool
+    requires { ⌜ (length (now card) ≡ 80) × (1 ≤ unpack row .first) × (unpack row .first ≤ unpack row .last) × (unpack row .last ≤ 80) ⌝ }
+    ensures { λ r. ⌜ r ≡ misplacedOn (now (card .entry)) (unpack row) form ⌝ }
+{
+    let columns = needing::columns(card, fields::first_of(row), fields::last_of(row));
+    spelling::is_misplaced(columns, spelling_of(fields::kind_of(row), form))
 }

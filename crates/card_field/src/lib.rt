@@ -13,18 +13,18 @@ ghost use mathlib.Core.Path.{_≡_};
 ghost use Rattle.format_layout.specs.packed.Rows.{unpack};
 ghost use Rattle.card_field.specs.Reading.{answeredOf, fieldReading, holdsText, fieldText};
 
-// The answer to reading a field.
+// The answer to reading a field: its value and whether that is a misplaced number, one with blanks behind it.
 pub enum FieldRead {
-    Is(Value),
+    Is(Value, bool),
     Refused(Refusal),
 }
 
 // The answer for the field that a row holds: its value, or its offence at its first column.
-fn answered(row: u64, j: Judged) -> FieldRead
-    ensures { λ r. ⌜ r ≡ answeredOf (unpack row) j ⌝ }
+fn answered(row: u64, misplaced: bool, j: Judged) -> FieldRead
+    ensures { λ r. ⌜ r ≡ answeredOf (unpack row) misplaced j ⌝ }
 {
     match j {
-        Judged::Is(v) => FieldRead::Is(v),
+        Judged::Is(v) => FieldRead::Is(v, misplaced),
         Judged::Not(number) => {
             let column = fields::first_of(row);
             FieldRead::Refused(Refusal {
@@ -45,7 +45,8 @@ pub fn read_field(card: &[u8], number: usize, form: usize) -> FieldRead
         Way::Refused(r) => FieldRead::Refused(r),
         Way::At(k, row) => {
             let form = format_layout::form_numbered(form);
-            answered(row, judging::judge(card, k, row, form))
+            let misplaced = judging::is_misplaced(card, row, form);
+            answered(row, misplaced, judging::judge(card, k, row, form))
         }
     }
 }

@@ -14,9 +14,9 @@ use Rattle.base_value.specs.declared.Value.{Value}
 use Rattle.base_value.specs.declared.Value.the-variants.{Absent, Whole, Decimal, Angle, Date, Text}
 use Rattle.base_value.specs.declared.Reading.{Reading}
 use Rattle.base_value.specs.declared.Reading.the-variants as reading
-use Rattle.value_field.specs.spelling.Reading.{readingOf, isText, textRead}
+use Rattle.value_field.specs.spelling.Reading.{readingOf, misplacedIn, isText, textRead}
 use Rattle.value_field.specs.writing.Writing.{entryOf, textEntryOf}
-use Rattle.value_field.proofs.writing.Back.{value-back, text-read-back as field-text-back}
+use Rattle.value_field.proofs.writing.Back.{value-back, value-placed, text-read-back as field-text-back}
 use Rattle.value_field.proofs.writing.Printed.{both, value-printed, text-printed}
 use Rattle.format_layout.specs.declared.Field.{Field}
 use Rattle.format_layout.specs.Forms.{formNumbered}
@@ -28,7 +28,7 @@ use Rattle.card_field.specs.declared.FieldRead.the-variants as read
 use Rattle.card_field.specs.declared.seeking.Sought.the-variants as sought
 use Rattle.card_field.specs.seeking.Card.{coded, soughtOf}
 use Rattle.value_text.specs.printable.Bytes.{firstBad}
-use Rattle.card_field.specs.judging.Fields.{spellingOf, valueOf, heldOf, judgedOf}
+use Rattle.card_field.specs.judging.Fields.{spellingOf, valueOf, heldOf, judgedOf, misplacedOn}
 use Rattle.card_field.specs.needing.Needs.{columnsOf, neededOn}
 use Rattle.card_field.specs.Reading.{answeredOf, fieldReading, holdsText, textOn, fieldText}
 use Rattle.card_field.proofs.seeking.Steps.{found-there, found-coded, sought-coded}
@@ -89,6 +89,11 @@ module _ (s : List ℕ) (n form k : ℕ) (f : Field) (q : soughtOf s n form ≡ 
       ap (take (width f)) (drop-at (take (f .first - 1) s) (t ++ drop (width f) (drop (f .first - 1) s)) (f .first - 1) before)
       ∙ take-at t (drop (width f) (drop (f .first - 1) s)) (width f) wide
 
+  -- and a number among them is misplaced where it was before it was put
+  pub now-placed : misplacedOn (placedIn f s t) f (formNumbered form) ≡ misplacedIn (spellingOf (f .kind) (formNumbered form)) t
+  unfolding misplacedOn
+  now-placed = ap (misplacedIn (spellingOf (f .kind) (formNumbered form))) now-holds
+
 -- a value in its range, held against its field, is itself
 held-again : (needed : Bool) (f : Field) (v : Value) → isAbsent v ≡ false → holdsText (judged.Is v) ≡ false → within f v ≡ true → valueOf needed f v ≡ judged.Is v
 unfolding valueOf holdsText
@@ -99,20 +104,21 @@ held-again needed f (Angle z) a x h = refl
 held-again needed f (Date d) a x h = refl
 held-again needed f (Text c) a x h = absurd (true≢false x)
 
--- a value that was put into a field is read from it
+-- a value that was put into a field is read from it, and is not misplaced
 pub value-read-back : (s : List ℕ) (n form k : ℕ) (f : Field) → soughtOf s n form ≡ sought.Is k f → (v : Value) (t : List ℕ)
     → entryOf (spellingOf (f .kind) (formNumbered form)) (width f) v ≡ agreed t → within f v ≡ true → isAbsent v ≡ false → holdsText (judged.Is v) ≡ false
-    → fieldReading (placedIn f s t) n form ≡ read.Is v
+    → fieldReading (placedIn f s t) n form ≡ read.Is v false
 unfolding answeredOf heldOf judgedOf
 value-read-back s n form k f q v t e h a x =
     let sp = spellingOf (f .kind) (formNumbered form) in
     let b = value-back (width f) t sp v e in
     let p = value-printed (width f) t sp v e in
     let card = placedIn f s t in
-    sym (reading-is card n form k f (still-there s n form k f q t (b .1) p) (judgedOf k card f (formNumbered form)) refl)
-    ∙ ap (λ c. answeredOf f (heldOf (neededOn k card f) f (readingOf sp c))) (now-holds s n form k f q t (b .1) p)
-    ∙ ap (λ r. answeredOf f (heldOf (neededOn k card f) f r)) (b .0)
-    ∙ ap (answeredOf f) (held-again (neededOn k card f) f v a x h)
+    let m = now-placed s n form k f q t (b .1) p ∙ value-placed (width f) t sp v e in
+    sym (reading-is card n form k f (still-there s n form k f q t (b .1) p) (judgedOf k card f (formNumbered form)) refl false (sym m))
+    ∙ ap (λ c. answeredOf f false (heldOf (neededOn k card f) f (readingOf sp c))) (now-holds s n form k f q t (b .1) p)
+    ∙ ap (λ r. answeredOf f false (heldOf (neededOn k card f) f r)) (b .0)
+    ∙ ap (answeredOf f false) (held-again (neededOn k card f) f v a x h)
 
 -- need and range do not turn a text into none
 texts-alike : (needed : Bool) (f : Field) (r : Reading) → holdsText (heldOf needed f r) ≡ isText r

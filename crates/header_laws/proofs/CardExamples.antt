@@ -14,7 +14,7 @@ use Rattle.value_date.specs.Dates.{datedOf, dateOf}
 use Rattle.value_coordinate.specs.angle.Angles.{paddedOf, partsOf, isSpelled, angledOf, angleOf}
 use Rattle.value_coordinate.specs.axes.Axes.{boundOf, letterOf}
 use Rattle.value_coordinate.specs.grid.Grid.{presentOf, gridOf}
-use Rattle.value_field.specs.spelling.Reading.{textReading, wholeReading, readingOf}
+use Rattle.value_field.specs.spelling.Reading.{textReading, numberIn, wholeReading, readingOf}
 use Rattle.format_layout.specs.Shape.{bytes}
 use Rattle.format_layout.specs.Table.{layouts, passedCodes}
 use Rattle.format_code.specs.Codes.{byteFits, fitsAt, fits, codes, placeIn, codeAt, codeOf}
@@ -37,7 +37,7 @@ verdicts form (t ∷ ts) = verdictOf (take 80 (bytes t ++ replicate 80 32)) form
 -- labels and gaps: a blank label, a byte behind the label, the leftmost of two offences
 pub labels : verdicts Angles ("H0004" ∷ "H0004Client:" ∷ "H0004Client:x" ∷ "H0110" ∷ "H1410 any text" ∷ "H2110   xy" ∷ [])
     ≡ Offence 8 6 ∷ Fine ∷ Offence 7 13 ∷ Offence 5 1 ∷ Fine ∷ Offence 9 7 ∷ []
-unfolding first firstFrom alike blanks unpadded leading behind valueFrom pointOf figuresOf signedOf numberHeld signOf readNumber textEnd textOf leadingBlank isLeap isShort daysIn isDate datedOf dateOf paddedOf partsOf isSpelled angledOf angleOf boundOf letterOf presentOf gridOf textReading wholeReading readingOf layouts passedCodes byteFits fitsAt fits codes placeIn codeAt codeOf layoutAt fieldsOf labelOf inRange firstBad columnsOf isBlank spellingOf anySecond neededOn valueOf heldOf judgedOf fieldOffence filledAt gapOffence columnOffence labelStands labelOffence offenceAt verdictAt verdictFrom codeVerdict verdictOf
+unfolding first firstFrom alike blanks unpadded leading behind valueFrom pointOf figuresOf signedOf numberHeld signOf readNumber textEnd textOf leadingBlank isLeap isShort daysIn isDate datedOf dateOf paddedOf partsOf isSpelled angledOf angleOf boundOf letterOf presentOf gridOf textReading wholeReading numberIn readingOf layouts passedCodes byteFits fitsAt fits codes placeIn codeAt codeOf layoutAt fieldsOf labelOf inRange firstBad columnsOf isBlank spellingOf anySecond neededOn valueOf heldOf judgedOf fieldOffence filledAt gapOffence columnOffence labelStands labelOffence offenceAt verdictAt verdictFrom codeVerdict verdictOf
 labels = refl
 
 -- a coordinate by its form: as angles, as a grid, and passed over; a passed-over one still makes its second set present
@@ -54,15 +54,15 @@ waypoints =
 
 pub by-angles : verdicts Angles waypoints
     ≡ Fine ∷ Offence 9 13 ∷ Offence 10 13 ∷ Offence 11 39 ∷ Offence 7 25 ∷ Offence 11 9 ∷ Offence 9 9 ∷ []
-unfolding first firstFrom alike blanks unpadded leading behind valueFrom pointOf figuresOf signedOf numberHeld signOf readNumber textEnd textOf leadingBlank isLeap isShort daysIn isDate datedOf dateOf paddedOf partsOf isSpelled angledOf angleOf boundOf letterOf presentOf gridOf textReading wholeReading readingOf layouts passedCodes byteFits fitsAt fits codes placeIn codeAt codeOf layoutAt fieldsOf labelOf inRange firstBad columnsOf isBlank spellingOf anySecond neededOn valueOf heldOf judgedOf fieldOffence filledAt gapOffence columnOffence labelStands labelOffence offenceAt verdictAt verdictFrom codeVerdict verdictOf
+unfolding first firstFrom alike blanks unpadded leading behind valueFrom pointOf figuresOf signedOf numberHeld signOf readNumber textEnd textOf leadingBlank isLeap isShort daysIn isDate datedOf dateOf paddedOf partsOf isSpelled angledOf angleOf boundOf letterOf presentOf gridOf textReading wholeReading numberIn readingOf layouts passedCodes byteFits fitsAt fits codes placeIn codeAt codeOf layoutAt fieldsOf labelOf inRange firstBad columnsOf isBlank spellingOf anySecond neededOn valueOf heldOf judgedOf fieldOffence filledAt gapOffence columnOffence labelStands labelOffence offenceAt verdictAt verdictFrom codeVerdict verdictOf
 by-angles = refl
 
 pub by-grid : verdicts Grid waypoints
     ≡ Fine ∷ Offence 9 13 ∷ Fine ∷ Offence 11 39 ∷ Offence 7 25 ∷ Offence 11 9 ∷ Offence 9 9 ∷ []
-unfolding first firstFrom alike blanks unpadded leading behind valueFrom pointOf figuresOf signedOf numberHeld signOf readNumber textEnd textOf leadingBlank isLeap isShort daysIn isDate datedOf dateOf paddedOf partsOf isSpelled angledOf angleOf boundOf letterOf presentOf gridOf textReading wholeReading readingOf layouts passedCodes byteFits fitsAt fits codes placeIn codeAt codeOf layoutAt fieldsOf labelOf inRange firstBad columnsOf isBlank spellingOf anySecond neededOn valueOf heldOf judgedOf fieldOffence filledAt gapOffence columnOffence labelStands labelOffence offenceAt verdictAt verdictFrom codeVerdict verdictOf
+unfolding first firstFrom alike blanks unpadded leading behind valueFrom pointOf figuresOf signedOf numberHeld signOf readNumber textEnd textOf leadingBlank isLeap isShort daysIn isDate datedOf dateOf paddedOf partsOf isSpelled angledOf angleOf boundOf letterOf presentOf gridOf textReading wholeReading numberIn readingOf layouts passedCodes byteFits fitsAt fits codes placeIn codeAt codeOf layoutAt fieldsOf labelOf inRange firstBad columnsOf isBlank spellingOf anySecond neededOn valueOf heldOf judgedOf fieldOffence filledAt gapOffence columnOffence labelStands labelOffence offenceAt verdictAt verdictFrom codeVerdict verdictOf
 by-grid = refl
 
 pub by-none : verdicts Unknown waypoints
     ≡ Fine ∷ Fine ∷ Fine ∷ Offence 11 39 ∷ Offence 7 25 ∷ Offence 11 9 ∷ Offence 9 9 ∷ []
-unfolding first firstFrom alike blanks unpadded leading behind valueFrom pointOf figuresOf signedOf numberHeld signOf readNumber textEnd textOf leadingBlank isLeap isShort daysIn isDate datedOf dateOf paddedOf partsOf isSpelled angledOf angleOf boundOf letterOf presentOf gridOf textReading wholeReading readingOf layouts passedCodes byteFits fitsAt fits codes placeIn codeAt codeOf layoutAt fieldsOf labelOf inRange firstBad columnsOf isBlank spellingOf anySecond neededOn valueOf heldOf judgedOf fieldOffence filledAt gapOffence columnOffence labelStands labelOffence offenceAt verdictAt verdictFrom codeVerdict verdictOf
+unfolding first firstFrom alike blanks unpadded leading behind valueFrom pointOf figuresOf signedOf numberHeld signOf readNumber textEnd textOf leadingBlank isLeap isShort daysIn isDate datedOf dateOf paddedOf partsOf isSpelled angledOf angleOf boundOf letterOf presentOf gridOf textReading wholeReading numberIn readingOf layouts passedCodes byteFits fitsAt fits codes placeIn codeAt codeOf layoutAt fieldsOf labelOf inRange firstBad columnsOf isBlank spellingOf anySecond neededOn valueOf heldOf judgedOf fieldOffence filledAt gapOffence columnOffence labelStands labelOffence offenceAt verdictAt verdictFrom codeVerdict verdictOf
 by-none = refl

@@ -15,7 +15,7 @@ use Rattle.value_date.specs.Dates.{datedOf, dateOf}
 use Rattle.value_coordinate.specs.angle.Angles.{paddedOf, partsOf, isSpelled, angledOf, angleOf}
 use Rattle.value_coordinate.specs.axes.Axes.{boundOf, letterOf}
 use Rattle.value_coordinate.specs.grid.Grid.{presentOf, gridOf}
-use Rattle.value_field.specs.spelling.Reading.{textReading, wholeReading, readingOf}
+use Rattle.value_field.specs.spelling.Reading.{textReading, numberIn, wholeReading, readingOf}
 use Rattle.format_layout.specs.Shape.{bytes}
 use Rattle.format_layout.specs.Table.{layouts, passedCodes}
 use Rattle.format_code.specs.Codes.{byteFits, fitsAt, fits, codes, placeIn, codeAt, codeOf}
@@ -122,7 +122,7 @@ pub all-answered : map (λ (k : Case). refusalOf (k .header)) cases ≡ map (λ 
 unfolding count first firstFrom alike part blanks unpadded leading behind valueFrom pointOf figuresOf signedOf numberHeld
     signOf readNumber textEnd textOf leadingBlank isLeap isShort daysIn isDate datedOf dateOf paddedOf partsOf isSpelled
     angledOf angleOf boundOf letterOf presentOf gridOf textReading wholeReading
-    readingOf layouts passedCodes byteFits fitsAt fits codes placeIn codeAt codeOf layoutAt fieldsOf labelOf inRange firstBad
+    numberIn readingOf layouts passedCodes byteFits fitsAt fits codes placeIn codeAt codeOf layoutAt fieldsOf labelOf inRange firstBad
     columnsOf isBlank spellingOf anySecond neededOn valueOf heldOf judgedOf fieldOffence filledAt gapOffence columnOffence
     labelStands labelOffence offenceAt columnVerdict verdictFrom codeVerdict verdictOf cardAt cardsIn byteIn layoutOf formSaid
     onlyForm statesLine statesGrid lineForm gridForm formOf codeNumber numberBefore goesOn continues blockEnd hasLine standsAt readable placedVerdict

@@ -23,15 +23,15 @@ numberFrom (f ∷ fs) n column = cond (eqb (f .first) column) n (numberFrom fs (
 unfoldable pub numberAt : ℕ → ℕ → ℕ
 numberAt k column = numberFrom (fieldsOf k) 1 column
 
--- the whole number in the answer to a reading; no other answer has one
+-- the whole number in the answer to a reading, misplaced or not; no other answer has one
 unfoldable pub wholeOf : FieldRead → List ℕ
-wholeOf (Is (Whole (pos n))) = n ∷ []
-wholeOf (Is (Whole (negsuc n))) = []
-wholeOf (Is Absent) = []
-wholeOf (Is (Decimal d)) = []
-wholeOf (Is (Angle z)) = []
-wholeOf (Is (Date d)) = []
-wholeOf (Is (Text c)) = []
+wholeOf (Is (Whole (pos n)) b) = n ∷ []
+wholeOf (Is (Whole (negsuc n)) b) = []
+wholeOf (Is Absent b) = []
+wholeOf (Is (Decimal d) b) = []
+wholeOf (Is (Angle z) b) = []
+wholeOf (Is (Date d) b) = []
+wholeOf (Is (Text c) b) = []
 wholeOf (Refused r) = []
 
 -- the whole number in the field of a layout that begins in a column; it has no form, so any will do

@@ -9,19 +9,19 @@ use lib.Dec.{T, eqb}
 use borrow.Author.Tests.{eq-eqb, ne-eqb}
 use denote.Enum.Declared.{tagOf}
 use types.Run.{OneOf, miss}
-use Rattle.value_number.specs.number.Reading.{numberOf as numberIn}
+use Rattle.value_number.specs.number.Reading.{numberOf as strictOf}
 use Rattle.value_date.specs.Dates.{dateOf}
 use Rattle.value_coordinate.specs.declared.axes.Axis.{Axis}
 use Rattle.value_coordinate.specs.declared.axes.Axis.the-variants.{Y, X}
 use Rattle.value_coordinate.specs.angle.Angles.{angleOf}
 use Rattle.value_coordinate.specs.grid.Grid.{gridOf}
-use Rattle.value_text.specs.text.Texts.{textEnd, leadingBlank}
+use Rattle.value_text.specs.text.Texts.{textEnd, textOf, leadingBlank}
 use Rattle.base_value.specs.declared.Value.{Value}
 use Rattle.base_value.proofs.Value.{the-type}
 use Rattle.base_value.specs.declared.Value.the-variants as value
 use Rattle.base_value.specs.declared.Reading.{Reading}
 use Rattle.base_value.specs.declared.Reading.the-variants.{Held, Malformed, OutOfRange}
-use Rattle.value_field.specs.spelling.Reading.{textReading, wholeReading, readingOf}
+use Rattle.value_field.specs.spelling.Reading.{textReading, numberIn, wholeReading, readingOf}
 use Rattle.value_field.proofs.spelling.OneKind.{OfKind, number-kind, date-kind, angle-kind, grid-kind}
 use Rattle.format_layout.specs.declared.Kind.{Kind}
 use Rattle.format_layout.specs.declared.Kind.the-variants as kind
@@ -106,9 +106,9 @@ module _ (f : Field) where
   unfolding offenceIn heldOf valueOf
   plain kind r of-kind h = of-kind (λ x. offenceOf x ≡ offenceIn f x) refl h refl refl
 
-  decimal-plain : (s : List ℕ) → offenceOf (numberIn true s) ≡ offenceIn f (numberIn true s)
+  decimal-plain : (s : List ℕ) → offenceOf (strictOf true s) ≡ offenceIn f (strictOf true s)
   unfolding offenceIn heldOf valueOf
-  decimal-plain s = plain value.Decimal (numberIn true s) (number-kind true s) (λ d. refl)
+  decimal-plain s = plain value.Decimal (strictOf true s) (number-kind true s) (λ d. refl)
 
   date-plain : (s : List ℕ) → offenceOf (dateOf s) ≡ offenceIn f (dateOf s)
   unfolding offenceIn heldOf valueOf
@@ -145,13 +145,13 @@ module _ (f : Field) where
     unfolding readingOf spellingOf
     as-comment q = text-plain true s ∙ by-kind kind.Comment q
 
-    pub as-whole : f .kind ≡ kind.Whole → offenceIn f (wholeReading (numberIn false s)) ≡ offenceIn f (readingOf (spellingOf (f .kind) form) s)
-    unfolding readingOf spellingOf
+    pub as-whole : f .kind ≡ kind.Whole → offenceIn f (wholeReading (strictOf false (textOf s))) ≡ offenceIn f (readingOf (spellingOf (f .kind) form) s)
+    unfolding readingOf numberIn spellingOf
     as-whole q = by-kind kind.Whole q
 
-    pub as-decimal : f .kind ≡ kind.Decimal → offenceOf (numberIn true s) ≡ offenceIn f (readingOf (spellingOf (f .kind) form) s)
-    unfolding readingOf spellingOf
-    as-decimal q = decimal-plain s ∙ by-kind kind.Decimal q
+    pub as-decimal : f .kind ≡ kind.Decimal → offenceOf (strictOf true (textOf s)) ≡ offenceIn f (readingOf (spellingOf (f .kind) form) s)
+    unfolding readingOf numberIn spellingOf
+    as-decimal q = decimal-plain (textOf s) ∙ by-kind kind.Decimal q
 
     pub as-date : f .kind ≡ kind.Date → (r : Reading) → r ≡ dateOf s → offenceOf r ≡ offenceIn f (readingOf (spellingOf (f .kind) form) s)
     unfolding readingOf spellingOf

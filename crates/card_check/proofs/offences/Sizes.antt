@@ -9,7 +9,7 @@ use lib.IntN.{ℤ, pos, negsuc}
 use Rattle.base_value.specs.declared.Value.the-variants as value
 use Rattle.value_field.specs.spelling.Reading.{wholeReading}
 use Rattle.value_field.proofs.spelling.OneKind.{number-kind}
-use Rattle.value_number.specs.number.Reading.{numberOf as numberIn}
+use Rattle.value_number.specs.number.Reading.{numberOf as strictOf}
 use Rattle.value_number.specs.packed.Shapes.{sized, sizeOf}
 use Rattle.format_layout.specs.declared.Field.{Field}
 use Rattle.format_layout.specs.declared.Kind.{Kind}
@@ -33,8 +33,8 @@ no-size : (size : ℕ) (z : ℤ) → size ≡ sized z → size < 3 → ⊥
 no-size size (pos m) e h = omega arith
 no-size size (negsuc m) e h = omega arith
 
-module _ (f : Field) (size : ℕ) (s : List ℕ) (is : size ≡ sizeOf (numberIn false s)) where
-  pub size-number : 4 ≤ size → cond (inRange (f .range) (pos (size - 4))) 0 10 ≡ offenceIn f (wholeReading (numberIn false s))
+module _ (f : Field) (size : ℕ) (s : List ℕ) (is : size ≡ sizeOf (strictOf false s)) where
+  pub size-number : 4 ≤ size → cond (inRange (f .range) (pos (size - 4))) 0 10 ≡ offenceIn f (wholeReading (strictOf false s))
   unfolding offenceIn heldOf valueOf wholeReading
   size-number h =
       number-kind false s (λ r. size ≡ sizeOf r → cond (inRange (f .range) (pos (size - 4))) 0 10 ≡ offenceIn f (wholeReading r))
@@ -48,7 +48,7 @@ module _ (f : Field) (size : ℕ) (s : List ℕ) (is : size ≡ sizeOf (numberIn
       go (pos m) q = ap pos (omega arith)
       go (negsuc m) q = absurd (omega arith)
 
-  pub size-blank : size ≡ 0 → 11 ≡ offenceIn f (wholeReading (numberIn false s))
+  pub size-blank : size ≡ 0 → 11 ≡ offenceIn f (wholeReading (strictOf false s))
   unfolding offenceIn heldOf valueOf wholeReading
   size-blank h =
       number-kind false s (λ r. size ≡ sizeOf r → 11 ≡ offenceIn f (wholeReading r))
@@ -58,7 +58,7 @@ module _ (f : Field) (size : ℕ) (s : List ℕ) (is : size ≡ sizeOf (numberIn
       (λ e. absurd (omega arith))
       is
 
-  pub size-odd : size ≡ 1 → 9 ≡ offenceIn f (wholeReading (numberIn false s))
+  pub size-odd : size ≡ 1 → 9 ≡ offenceIn f (wholeReading (strictOf false s))
   unfolding offenceIn heldOf valueOf wholeReading
   size-odd h =
       number-kind false s (λ r. size ≡ sizeOf r → 9 ≡ offenceIn f (wholeReading r))
@@ -68,7 +68,7 @@ module _ (f : Field) (size : ℕ) (s : List ℕ) (is : size ≡ sizeOf (numberIn
       (λ e. absurd (omega arith))
       is
 
-  pub size-large : size ≡ 2 → 10 ≡ offenceIn f (wholeReading (numberIn false s))
+  pub size-large : size ≡ 2 → 10 ≡ offenceIn f (wholeReading (strictOf false s))
   unfolding offenceIn heldOf valueOf wholeReading
   size-large h =
       number-kind false s (λ r. size ≡ sizeOf r → 10 ≡ offenceIn f (wholeReading r))
@@ -79,7 +79,7 @@ module _ (f : Field) (size : ℕ) (s : List ℕ) (is : size ≡ sizeOf (numberIn
       is
 
   -- all numbers below zero are in the same ranges
-  pub size-below : size ≡ 3 → cond (inRange (f .range) (negsuc 0)) 0 10 ≡ offenceIn f (wholeReading (numberIn false s))
+  pub size-below : size ≡ 3 → cond (inRange (f .range) (negsuc 0)) 0 10 ≡ offenceIn f (wholeReading (strictOf false s))
   unfolding offenceIn heldOf valueOf wholeReading inRange
   size-below h =
       number-kind false s (λ r. size ≡ sizeOf r → cond (inRange (f .range) (negsuc 0)) 0 10 ≡ offenceIn f (wholeReading r))

@@ -18,10 +18,10 @@ first-of-requires c κs = search needs
 
 returns : tie.Need-returns
 unfolding answeredOf
-returns c = sym (ap (answeredOf (unpack (c .before .before .before .args .row))) (c .before .j .given .1))
+returns c = sym (ap (answeredOf (unpack (c .before .before .before .args .row)) _) (c .before .j .given .1))
 
 returns-2 : tie.Need-returns-2
-returns-2 c = answered-not _ _ _ _ (c .before .before .j2 .given .1) (c .first-of .ensures)
+returns-2 c = answered-not _ _ _ _ _ (c .before .before .j2 .given .1) (c .first-of .ensures)
 
 pub answered-spec : {M : Type 1} → statement M
 answered-spec =

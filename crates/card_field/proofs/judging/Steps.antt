@@ -7,7 +7,6 @@ use mathlib.Core.Bool.{Bool, true, false, cond, _||_, not}
 use lib.ListN.{length, take, drop, length-take}
 use lib.Dec.{eqb}
 use lib.IntN.{ℤ}
-use Rattle.value_number.specs.number.Reading.{numberOf}
 use Rattle.value_date.specs.Dates.{dateOf}
 use Rattle.value_coordinate.specs.declared.axes.Axis.the-variants.{Y, X}
 use Rattle.value_coordinate.specs.angle.Angles.{angleOf}
@@ -21,8 +20,8 @@ use Rattle.base_value.specs.declared.Reading.{Reading}
 use Rattle.base_value.specs.declared.Reading.the-variants as reading
 use Rattle.value_field.specs.declared.spelling.Spelling.{Spelling}
 use Rattle.value_field.specs.declared.spelling.Spelling.the-variants as spelled
-use Rattle.value_field.specs.spelling.Reading.{textReading, wholeReading, readingOf}
-use Rattle.value_field.proofs.spelling.OneKind.{OfKind, number-kind, date-kind, angle-kind, grid-kind}
+use Rattle.value_field.specs.spelling.Reading.{textReading, numberIn, wholeReading, readingOf, misplacedIn}
+use Rattle.value_field.proofs.spelling.OneKind.{OfKind, number-in-kind, date-kind, angle-kind, grid-kind}
 use Rattle.format_layout.specs.declared.Field.{Field}
 use Rattle.format_layout.specs.declared.Form.{Form}
 use Rattle.format_layout.specs.declared.Kind.{Kind}
@@ -30,16 +29,16 @@ use Rattle.format_layout.specs.declared.Range.{Range}
 use Rattle.format_layout.specs.ranges.Ranges.{inRange}
 use Rattle.card_field.specs.declared.judging.Judged.the-variants as judged
 use Rattle.card_field.specs.needing.Needs.{columnsOf, neededOn}
-use Rattle.card_field.specs.judging.Fields.{readLast, valueOf, heldOf, spellingOf, judgedOf}
+use Rattle.card_field.specs.judging.Fields.{readLast, valueOf, heldOf, spellingOf, judgedOf, misplacedOn}
 
 -- a text that was read ends in its columns
 module _ (s : List ℕ) where
   none : {n : ℕ} → n ≡ 0 → n ≤ length s
   none h = omega arith
 
-  whole-last : readLast (wholeReading (numberOf false s)) ≤ length s
+  whole-last : readLast (wholeReading (numberIn false s)) ≤ length s
   unfolding wholeReading
-  whole-last = none (number-kind false s (λ r. readLast (wholeReading r) ≡ 0) refl (λ d. refl) refl refl)
+  whole-last = none (number-in-kind false s (λ r. readLast (wholeReading r) ≡ 0) refl (λ d. refl) refl refl)
 
   kind-last : {A : Type 0} (kind : A → Value) (r : Reading) → OfKind kind r → ((x : A) → readLast (reading.Held (kind x)) ≡ 0) → readLast r ≤ length s
   kind-last kind r of-kind h = none (of-kind (λ x. readLast x ≡ 0) refl h refl refl)
@@ -59,7 +58,7 @@ module _ (s : List ℕ) where
   read-last spelled.Text = text-last false
   read-last spelled.Comment = text-last true
   read-last spelled.Whole = whole-last
-  read-last spelled.Decimal = kind-last value.Decimal (numberOf true s) (number-kind true s) (λ d. refl)
+  read-last spelled.Decimal = kind-last value.Decimal (numberIn true s) (number-in-kind true s) (λ d. refl)
   read-last spelled.Date = kind-last value.Date (dateOf s) (date-kind s) (λ d. refl)
   read-last spelled.Latitude = kind-last value.Angle (angleOf Y s) (angle-kind Y s) (λ z. refl)
   read-last spelled.Longitude = kind-last value.Angle (angleOf X s) (angle-kind X s) (λ z. refl)
@@ -102,3 +101,10 @@ pub judged-is : (k : ℕ) (s : List ℕ) (f : Field) (form : Form) (first last :
     → (r : Reading) → r ≡ readingOf x t → (needed : Bool) → needed ≡ neededOn k s f → heldOf needed f r ≡ judgedOf k s f form
 unfolding judgedOf columnsOf
 judged-is k s f form first last a b t c d e x g r h needed i = rw (i, h, g, e, c, a, b)
+
+-- what looking for a misplaced number puts together
+pub misplaced-is : (s : List ℕ) (f : Field) (form : Form) (first last : ℕ) → first ≡ f .first → last ≡ f .last
+    → (t : List ℕ) → t ≡ take (last - (first - 1)) (drop (first - 1) s) → (d : Kind) → d ≡ f .kind → (x : Spelling) → x ≡ spellingOf d form
+    → (b : Bool) → b ≡ misplacedIn x t → b ≡ misplacedOn s f form
+unfolding misplacedOn columnsOf
+misplaced-is s f form first last a b t c d e x g m h = h ∙ rw (g, e, c, a, b)

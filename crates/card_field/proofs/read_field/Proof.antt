@@ -3,7 +3,7 @@ use denote.Ref.{now}
 use mathlib.Core.Path.{sym, ap, _∙_}
 use Rattle.card_field.proofs.seeking.Steps.{way-at, way-refused}
 use Rattle.format_layout.specs.packed.Rows.{unpack}
-use Rattle.card_field.specs.judging.Fields.{judgedOf}
+use Rattle.card_field.specs.judging.Fields.{judgedOf, misplacedOn}
 use Rattle.card_field.specs.Reading.{fieldReading, fieldOn}
 use Rattle.card_field.proofs.Steps.{found-fits, reading-is}
 use borrow.Author.Needs.{needs}
@@ -22,10 +22,16 @@ enum-known-way-2 c = search needs
 form-numbered-requires : tie.Need-form-numbered-requires
 form-numbered-requires c κs = search needs
 
-judge-requires : tie.Need-judge-requires
-judge-requires c κs =
+is-misplaced-requires : tie.Need-is-misplaced-requires
+is-misplaced-requires c κs =
     let s = now (c .before .before .before .before .before .before .args .card) in
     found-fits s _ _ _ _ (way-at s _ _ _ (c .before .before .before .before .seek .ensures) _ _ (c .before .before .way2 .given .1))
+
+judge-requires : tie.Need-judge-requires
+judge-requires c κs =
+    let f = c .before in
+    let s = now (f .before .before .before .before .before .before .args .card) in
+    found-fits s _ _ _ _ (way-at s _ _ _ (f .before .before .before .before .seek .ensures) _ _ (f .before .before .way2 .given .1))
 
 answered-requires : tie.Need-answered-requires
 answered-requires c κs = search needs
@@ -38,8 +44,14 @@ returns c =
 
 returns-2 : tie.Need-returns-2
 returns-2 c =
-    let s = now (c .before .before .before .before .before .before .before .before .args .card) in
-    c .answered .ensures ∙ reading-is s _ _ _ _ (way-at s _ _ _ (c .before .before .before .before .before .before .seek .ensures) _ _ (c .before .before .before .before .way2 .given .1)) _ (c .before .judge .ensures ∙ ap (judgedOf _ s (unpack _)) (c .before .before .form-numbered .ensures))
+    let m = c .before .before in
+    let f = m .before in
+    let s = now (f .before .before .before .before .before .before .args .card) in
+    let form = f .form-numbered .ensures in
+    c .answered .ensures
+    ∙ reading-is s _ _ _ _ (way-at s _ _ _ (f .before .before .before .before .seek .ensures) _ _ (f .before .before .way2 .given .1)) _
+    (c .before .judge .ensures ∙ ap (judgedOf _ s (unpack _)) form) _
+    (m .is-misplaced .ensures ∙ ap (misplacedOn s (unpack _)) form)
 
 pub read-field-spec : {M : Type 1} → statement M
 read-field-spec =
@@ -49,6 +61,7 @@ read-field-spec =
     enum-known-way
     enum-known-way-2
     form-numbered-requires
+    is-misplaced-requires
     judge-requires
     answered-requires
     returns

@@ -9,7 +9,7 @@ use Rattle.base_value.specs.declared.Reading.the-variants as reading
 use Rattle.value_field.specs.declared.spelling.Spelling.{Spelling}
 use Rattle.value_field.specs.declared.spelling.Spelling.the-variants as spelled
 use Rattle.base_value.specs.Reading.{refusalOf}
-use Rattle.value_field.specs.spelling.Reading.{readingOf}
+use Rattle.value_field.specs.spelling.Reading.{readingOf, misplacedIn}
 use Rattle.format_layout.specs.declared.Kind.{Kind}
 use Rattle.format_layout.specs.declared.Kind.the-variants as kind
 use Rattle.format_layout.specs.declared.Field.{Field}
@@ -76,3 +76,7 @@ numberOf (Not n) = n
 -- what a field of a card says, or the number of its offence
 unfoldable pub judgedOf : ℕ → List ℕ → Field → Form → Judged
 judgedOf k s f form = heldOf (neededOn k s f) f (readingOf (spellingOf (f .kind) form) (columnsOf f s))
+
+-- a field of a card holds a number that is misplaced
+unfoldable pub misplacedOn : List ℕ → Field → Form → Bool
+misplacedOn s f form = misplacedIn (spellingOf (f .kind) form) (columnsOf f s)

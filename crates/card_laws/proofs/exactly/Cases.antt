@@ -11,9 +11,9 @@ use Rattle.base_digits.specs.digits.Digits.{sizeUpTo}
 use Rattle.base_digits.specs.digits.Figures.{blanks, unpadded, leading, behind, valueFrom}
 use Rattle.value_number.specs.number.Reading.{pointOf, figuresOf, heldOf as numberHeld, signOf, numberOf}
 use Rattle.base_digits.specs.signs.Signs.{signedOf}
-use Rattle.value_text.specs.text.Texts.{textEnd, printable, leadingBlank, wellFormed}
+use Rattle.value_text.specs.text.Texts.{textEnd, textOf, printable, leadingBlank, wellFormed}
 use Rattle.base_value.specs.declared.Value.the-variants.{Absent, Whole, Decimal}
-use Rattle.value_field.specs.spelling.Reading.{textReading, wholeReading, readingOf}
+use Rattle.value_field.specs.spelling.Reading.{textReading, numberIn, wholeReading, readingOf}
 use Rattle.format_layout.specs.Shape.{bytes}
 use Rattle.format_layout.specs.Table.{layouts, passedCodes}
 use Rattle.format_code.specs.Codes.{byteFits, fitsAt, fits, codes, placeIn, codeAt, codeOf}
@@ -55,7 +55,7 @@ pub reading-cases : given (readRows [] 1 0)
     ∷ some (refusal 10 1 7)
     ∷ none
     ∷ []
-unfolding first firstFrom blanks unpadded leading behind valueFrom pointOf figuresOf signedOf numberHeld signOf numberOf textEnd printable leadingBlank textReading wholeReading readingOf layouts passedCodes byteFits fitsAt fits codes placeIn codeAt codeOf layoutAt fieldsOf inRange firstBad columnsOf isBlank spellingOf anySecond given fieldsOn fieldAt isNeeded readingIn wayRows fieldRows readRows
+unfolding first firstFrom blanks unpadded leading behind valueFrom pointOf figuresOf signedOf numberHeld signOf numberOf textEnd printable leadingBlank textReading numberIn textOf wholeReading readingOf layouts passedCodes byteFits fitsAt fits codes placeIn codeAt codeOf layoutAt fieldsOf inRange firstBad columnsOf isBlank spellingOf anySecond given fieldsOn fieldAt isNeeded readingIn wayRows fieldRows readRows
 reading-cases = refl
 
 -- values put on a compass card: nodes of both sets, and the distance in columns 50 to 57

@@ -47,19 +47,19 @@ or-none (some r) = refl
 
 -- a field's judgement as an offence at its first column
 judged-mark : (needed : Bool) (f : Field) (r : Reading)
-    → inReading (answeredOf f (heldOf needed f r)) ≡ marked (numberOf (heldOf needed f r)) (f .first)
+    → inReading (answeredOf f false (heldOf needed f r)) ≡ marked (numberOf (heldOf needed f r)) (f .first)
 unfolding answeredOf heldOf valueOf
 judged-mark needed f reading.Malformed = refl
 judged-mark needed f reading.OutOfRange = refl
 judged-mark needed f (reading.Held value.Absent) = go needed
   where
-    go : (b : Bool) → inReading (answeredOf f (cond b (judged.Not 11) (judged.Is value.Absent)))
+    go : (b : Bool) → inReading (answeredOf f false (cond b (judged.Not 11) (judged.Is value.Absent)))
         ≡ marked (numberOf (cond b (judged.Not 11) (judged.Is value.Absent))) (f .first)
     go true = refl
     go false = refl
 judged-mark needed f (reading.Held (value.Whole z)) = go (inRange (f .range) z)
   where
-    go : (b : Bool) → inReading (answeredOf f (cond b (judged.Is (value.Whole z)) (judged.Not 10)))
+    go : (b : Bool) → inReading (answeredOf f false (cond b (judged.Is (value.Whole z)) (judged.Not 10)))
         ≡ marked (numberOf (cond b (judged.Is (value.Whole z)) (judged.Not 10))) (f .first)
     go true = refl
     go false = refl
@@ -71,7 +71,7 @@ judged-mark needed f (reading.Held (value.Text c)) = refl
 module _ (s : List ℕ) (k : ℕ) (fields : fieldsOn s ≡ fieldsOf k) where
   field-mark : (form : Form) (f : Field) → given (fieldRows s form f) ≡ marked (numberOf (judgedOf k s f form)) (f .first)
   unfolding judgedOf
-  field-mark form f = field-rows k s form f fields
+  field-mark form f = field-rows k s form f fields false
       ∙ judged-mark (neededOn k s f) f (readingOf (spellingOf (f .kind) form) (columnsOf f s))
 
   form-mark : (form : Form) (f : Field) → given (formRows form s f) ≡ marked (fieldOffence k form s f) (f .first)

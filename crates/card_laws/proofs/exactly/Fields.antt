@@ -52,8 +52,8 @@ pub absent-blank : (k : Spelling) (s : List ℕ) → readingOf k s ≡ reading.H
 unfolding isBlank textEnd
 absent-blank k s h = eq-eqb (textEnd s) 0 (ap textEnd (absent-only s k h) ∙ end-blanks [] (length s))
 
--- a field held against its need and range
-module _ (needed : Bool) (f : Field) where
+-- a field held against its need and range; whether its number is misplaced plays no part
+module _ (needed left : Bool) (f : Field) where
   own : Bool → Reading → Option Refusal
   own blank r =
       cond (needed && blank) (some (refusal 11 1 (f .first)))
@@ -61,12 +61,12 @@ module _ (needed : Bool) (f : Field) where
       (cond (readsOutside f r) (some (refusal 10 1 (f .first))) none))
 
   held-rows : (blank : Bool) (r : Reading) → (blank ≡ true → r ≡ reading.Held Absent) → (r ≡ reading.Held Absent → blank ≡ true)
-      → own blank r ≡ inReading (answeredOf f (heldOf needed f r))
+      → own blank r ≡ inReading (answeredOf f left (heldOf needed f r))
   unfolding own answeredOf heldOf valueOf
   held-rows true r a b = rw (a refl) (go needed)
     where
       go : (x : Bool) → cond (x && true) (some (refusal 11 1 (f .first))) none
-          ≡ inReading (answeredOf f (cond x (judged.Not 11) (judged.Is Absent)))
+          ≡ inReading (answeredOf f left (cond x (judged.Not 11) (judged.Is Absent)))
       go true = refl
       go false = refl
   held-rows false r a b = rw (never needed) (go r b)
@@ -76,13 +76,13 @@ module _ (needed : Bool) (f : Field) where
       never false = refl
 
       ranged : (x : Bool) (z : Value)
-          → cond (not x) (some (refusal 10 1 (f .first))) none ≡ inReading (answeredOf f (cond x (judged.Is z) (judged.Not 10)))
+          → cond (not x) (some (refusal 10 1 (f .first))) none ≡ inReading (answeredOf f left (cond x (judged.Is z) (judged.Not 10)))
       ranged true z = refl
       ranged false z = refl
 
       go : (r : Reading) → (r ≡ reading.Held Absent → false ≡ true)
           → cond (isMalformed r) (some (refusal 9 1 (f .first))) (cond (readsOutside f r) (some (refusal 10 1 (f .first))) none)
-          ≡ inReading (answeredOf f (heldOf needed f r))
+          ≡ inReading (answeredOf f left (heldOf needed f r))
       go reading.Malformed b = refl
       go reading.OutOfRange b = refl
       go (reading.Held Absent) b = absurd (false≢true (b refl))
@@ -94,11 +94,11 @@ module _ (needed : Bool) (f : Field) where
 
 -- the rows of a field are its judgement
 pub field-rows : (k : ℕ) (s : List ℕ) (form : Form) (f : Field) → fieldsOn s ≡ fieldsOf k
-    → given (fieldRows s form f) ≡ inReading (answeredOf f (judgedOf k s f form))
+    → (left : Bool) → given (fieldRows s form f) ≡ inReading (answeredOf f left (judgedOf k s f form))
 unfolding given fieldRows isNeeded readingIn judgedOf neededOn own
-field-rows k s form f q =
+field-rows k s form f q left =
     rw q
-    (held-rows (f .needed && (not (f .second) || anySecond s (fieldsOf k))) f (isBlank (columnsOf f s))
+    (held-rows (f .needed && (not (f .second) || anySecond s (fieldsOf k))) left f (isBlank (columnsOf f s))
     (readingOf (spellingOf (f .kind) form) (columnsOf f s))
     (blank-absent (spellingOf (f .kind) form) (columnsOf f s)) (absent-blank (spellingOf (f .kind) form) (columnsOf f s)))
 
@@ -107,7 +107,7 @@ reading-is : (s : List ℕ) (n form : ℕ) (o : Sought) → soughtOf s n form �
 unfolding fieldOn
 reading-is s n form (sought.Refused r) q = refl
 reading-is s n form (sought.Is k f) q =
-    rw (found-field s n form k f q) (sym (field-rows k s (formNumbered form) f (found-fields s n form k f q)))
+    rw (found-field s n form k f q) (sym (field-rows k s (formNumbered form) f (found-fields s n form k f q) _))
 
 -- the refusal in the reading of a field is the first that its table gives
 pub reading-given : (s : List ℕ) (n form : ℕ) → inReading (fieldReading s n form) ≡ given (readRows s n form)
@@ -119,16 +119,16 @@ reading-given s n form =
 
 module _ (s : List ℕ) (n form : ℕ) where
   refused-as : (a : FieldRead) (r : Refusal) → (a ≡ read.Refused r) ↔ (inReading a ≡ some r)
-  refused-as (read.Is v) r = (λ e. absurd (zero-one cc), λ e. absurd (zero-one cc))
+  refused-as (read.Is v b) r = (λ e. absurd (zero-one cc), λ e. absurd (zero-one cc))
   refused-as (read.Refused q) r = (λ e. ap inReading e, λ e. let x : q ≡ r = cc in ap read.Refused x)
 
-  value-as : (a : FieldRead) → ((v : Value) × (a ≡ read.Is v)) ↔ (inReading a ≡ none)
-  value-as (read.Is v) = (λ e. refl, λ e. (v, refl))
+  value-as : (a : FieldRead) → ((v : Value) × (b : Bool) × (a ≡ read.Is v b)) ↔ (inReading a ≡ none)
+  value-as (read.Is v b) = (λ e. refl, λ e. (v, b, refl))
   value-as (read.Refused q) = (λ e. absurd (zero-one cc), λ e. absurd (zero-one cc))
 
   -- reading a field of a card
   pub reading-exactly : Exactly (readRows s n form) (λ r. fieldReading s n form ≡ read.Refused r)
-      ((v : Value) × (fieldReading s n form ≡ read.Is v))
+      ((v : Value) × (b : Bool) × (fieldReading s n form ≡ read.Is v b))
   reading-exactly =
       exactly (readRows s n form) (inReading (fieldReading s n form)) (reading-given s n form)
       (refused-as (fieldReading s n form)) (value-as (fieldReading s n form))

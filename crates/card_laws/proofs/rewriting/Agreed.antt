@@ -141,11 +141,11 @@ module _ (s : List ℕ) (n form k : ℕ) (f : Field) (q : soughtOf s n form ≡ 
   still-free (Date d) e h = refl
   still-free (Text c) e h = refl
 
--- what putting a value again leaves: a card of 80 columns that says the same, and that putting it once more leaves as it is
+-- what putting a value again leaves: a card of 80 columns that says the same, not misplaced, and that putting it once more leaves as it is
 pub record Rewritten (s : List ℕ) (n form : ℕ) (v : Value) : Type 0 where
   pub card : List ℕ
   pub put : puttingOf s n form v ≡ placed card
-  pub says : fieldReading card n form ≡ read.Is v
+  pub says : fieldReading card n form ≡ read.Is v false
   pub twice : puttingOf card n form v ≡ placed card
   pub whole : length card ≡ 80
 
@@ -169,8 +169,8 @@ module _ (s : List ℕ) (n form : ℕ) where
       let free = still-free s n form k f q v e (h .2) in
       record { says = e; columns = a .0; entry = a .1; put = put-so s n form k f q v (a .0) fits (h .1) free }
 
-  -- a value that was read, put again
-  pub value-rewritten : (v : Value) → fieldReading s n form ≡ read.Is v → holdsText (judged.Is v) ≡ false → Rewritten s n form v
+  -- a value that was read, misplaced or not, put again
+  pub value-rewritten : (v : Value) {b : Bool} → fieldReading s n form ≡ read.Is v b → holdsText (judged.Is v) ≡ false → Rewritten s n form v
   value-rewritten v e x =
       let r = was-read s n form v e in
       let a = again v r x in
@@ -185,7 +185,7 @@ module _ (s : List ℕ) (n form : ℕ) where
       }
 
   -- a text that was read, put again, leaves the very card
-  pub text-rewritten : (c : Columns) → fieldReading s n form ≡ read.Is (Text c)
+  pub text-rewritten : (c : Columns) {b : Bool} → fieldReading s n form ≡ read.Is (Text c) b
       → puttingTextOf s n form (fieldText s n form) ≡ placed s
   unfolding byEntry heldOf judgedOf holdsText
   text-rewritten c e =
@@ -205,7 +205,7 @@ module _ (s : List ℕ) (n form : ℕ) where
       ∙ ap placed (same-columns s n form k f (r .found))
 
   -- a field that is blank, blanked, leaves the very card
-  pub absent-rewritten : fieldReading s n form ≡ read.Is Absent → puttingOf s n form Absent ≡ placed s
+  pub absent-rewritten : {b : Bool} → fieldReading s n form ≡ read.Is Absent b → puttingOf s n form Absent ≡ placed s
   unfolding holdsText
   absent-rewritten e =
       let r = was-read s n form Absent e in

@@ -21,7 +21,7 @@ use Rattle.card_field.specs.declared.seeking.Sought.{Sought}
 use Rattle.card_field.specs.declared.seeking.Sought.the-variants as sought
 use Rattle.base_refusal.specs.Refusals.{refusal}
 use Rattle.card_field.specs.seeking.Card.{soughtOf}
-use Rattle.card_field.specs.judging.Fields.{spellingOf, valueOf, heldOf, judgedOf}
+use Rattle.card_field.specs.judging.Fields.{spellingOf, valueOf, heldOf, judgedOf, misplacedOn}
 use Rattle.card_field.specs.needing.Needs.{columnsOf, neededOn}
 use Rattle.card_field.specs.Reading.{answeredOf, fieldOn, fieldReading}
 use Rattle.card_put.specs.Putting.{Putting, placed, stays, placedIn, isAbsent, within, isOther, cameOf, byEntry}
@@ -122,22 +122,23 @@ pub record Read (s : List ℕ) (n form : ℕ) (v : Value) : Type 0 where
   pub says : readingOf (spellingIn field form) (columnsOf field s) ≡ reading.Held value
   pub held : valueOf (neededOn code s field) field value ≡ judged.Is v
 
-pub was-read : (s : List ℕ) (n form : ℕ) (v : Value) → fieldReading s n form ≡ read.Is v → Read s n form v
+-- misplaced or not
+pub was-read : (s : List ℕ) (n form : ℕ) (v : Value) {b : Bool} → fieldReading s n form ≡ read.Is v b → Read s n form v
 unfolding fieldReading fieldOn answeredOf judgedOf heldOf
-was-read s n form v e = go (soughtOf s n form) refl e
+was-read s n form v {b} e = go (soughtOf s n form) refl e
   where
-    judgment : (f : Field) (j : Judged) → answeredOf f j ≡ read.Is v → j ≡ judged.Is v
-    judgment f (judged.Is u) h = let q : u ≡ v = cc in ap judged.Is q
-    judgment f (judged.Not m) h = absurd (zero-one cc)
+    judgment : (f : Field) (a : Bool) (j : Judged) → answeredOf f a j ≡ read.Is v b → j ≡ judged.Is v
+    judgment f a (judged.Is u) h = let q : u ≡ v = cc in ap judged.Is q
+    judgment f a (judged.Not m) h = absurd (zero-one cc)
 
     by : (k : ℕ) (f : Field) → soughtOf s n form ≡ sought.Is k f → (r : Reading)
-        → readingOf (spellingIn f form) (columnsOf f s) ≡ r → answeredOf f (heldOf (neededOn k s f) f r) ≡ read.Is v
+        → readingOf (spellingIn f form) (columnsOf f s) ≡ r → answeredOf f (misplacedOn s f (formNumbered form)) (heldOf (neededOn k s f) f r) ≡ read.Is v b
         → Read s n form v
     by k f q reading.Malformed x h = absurd (zero-one cc)
     by k f q reading.OutOfRange x h = absurd (zero-one cc)
     by k f q (reading.Held u) x h =
-        record { code = k; field = f; found = q; value = u; says = x; held = judgment f (valueOf (neededOn k s f) f u) h }
+        record { code = k; field = f; found = q; value = u; says = x; held = judgment f _ (valueOf (neededOn k s f) f u) h }
 
-    go : (o : Sought) → soughtOf s n form ≡ o → fieldOn s (formNumbered form) o ≡ read.Is v → Read s n form v
+    go : (o : Sought) → soughtOf s n form ≡ o → fieldOn s (formNumbered form) o ≡ read.Is v b → Read s n form v
     go (sought.Refused r) q h = absurd (zero-one cc)
     go (sought.Is k f) q h = by k f q (readingOf (spellingIn f form) (columnsOf f s)) refl h

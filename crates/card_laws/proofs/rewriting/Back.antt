@@ -15,10 +15,10 @@ use Rattle.base_value.specs.declared.Value.the-variants.{Absent, Whole, Decimal
 use Rattle.base_value.specs.declared.Reading.the-variants as reading
 use Rattle.value_field.specs.declared.spelling.Spelling.{Spelling}
 use Rattle.value_field.specs.declared.spelling.Spelling.the-variants as spelled
-use Rattle.value_field.specs.spelling.Reading.{readingOf, textReading}
+use Rattle.value_field.specs.spelling.Reading.{readingOf, textReading, misplacedIn}
 use Rattle.value_field.specs.writing.Writing.{textEntryOf}
 use Rattle.value_field.proofs.spelling.Absence.{absent-only}
-use Rattle.value_field.proofs.writing.Back.{never, value-back, text-read-back}
+use Rattle.value_field.proofs.writing.Back.{never, value-back, value-placed, text-placed, text-read-back}
 use Rattle.value_field.proofs.writing.Printed.{value-printed, text-printed}
 use Rattle.format_layout.specs.declared.Field.{Field}
 use Rattle.format_layout.specs.Forms.{formNumbered}
@@ -34,7 +34,7 @@ use Rattle.card_field.proofs.seeking.Steps.{found-there}
 use Rattle.card_field.proofs.Steps.{reading-is}
 use Rattle.card_put.specs.Putting.{placed, placedIn, isAbsent, puttingOf, puttingTextOf}
 use Rattle.format_layout.specs.Columns.{width}
-use Rattle.card_put.proofs.Back.{still-there, now-holds, value-read-back, text-read-back as text-handed-back}
+use Rattle.card_put.proofs.Back.{still-there, now-holds, now-placed, value-read-back, text-read-back as text-handed-back}
 use Rattle.card_laws.proofs.rewriting.Need.{blanked-need}
 use Rattle.card_laws.proofs.rewriting.Reasons.{text-no-value}
 use Rattle.card_laws.proofs.rewriting.Untouched.{value-outside}
@@ -72,18 +72,19 @@ text-says spelled.Easting w x t e = absurd (never e)
 module _ (s : List ℕ) (n form : ℕ) where
   -- what a field says on a card with other columns in it
   placed-reads : (k : ℕ) (f : Field) → soughtOf s n form ≡ sought.Is k f → (t : List ℕ) → length t ≡ width f
-      → printable t ≡ true → (v : Value) → readingOf (spellingIn f form) t ≡ reading.Held v
-      → fieldReading (placedIn f s t) n form ≡ answeredOf f (valueOf (neededOn k (placedIn f s t) f) f v)
+      → printable t ≡ true → (v : Value) → readingOf (spellingIn f form) t ≡ reading.Held v → misplacedIn (spellingIn f form) t ≡ false
+      → fieldReading (placedIn f s t) n form ≡ answeredOf f false (valueOf (neededOn k (placedIn f s t) f) f v)
   unfolding answeredOf heldOf judgedOf
-  placed-reads k f q t l p v e =
+  placed-reads k f q t l p v e m =
       let card = placedIn f s t in
-      sym (reading-is card n form k f (still-there s n form k f q t l p) (judgedOf k card f (formNumbered form)) refl)
-      ∙ ap (λ c. answeredOf f (heldOf (neededOn k card f) f (readingOf (spellingIn f form) c))) (now-holds s n form k f q t l p)
-      ∙ ap (λ r. answeredOf f (heldOf (neededOn k card f) f r)) e
+      sym (reading-is card n form k f (still-there s n form k f q t l p) (judgedOf k card f (formNumbered form)) refl false
+      (sym (now-placed s n form k f q t l p ∙ m)))
+      ∙ ap (λ c. answeredOf f false (heldOf (neededOn k card f) f (readingOf (spellingIn f form) c))) (now-holds s n form k f q t l p)
+      ∙ ap (λ r. answeredOf f false (heldOf (neededOn k card f) f r)) e
 
   -- a blanked field is read as absent: its need looks at the other fields only, and they are as they were
   absent-back : (card : List ℕ) → puttingOf s n form Absent ≡ placed card → Put s n form Absent card
-      → fieldReading card n form ≡ read.Is Absent
+      → fieldReading card n form ≡ read.Is Absent false
   unfolding answeredOf valueOf
   absent-back card e p =
       let k = p .code in
@@ -99,21 +100,21 @@ module _ (s : List ℕ) (n form : ℕ) where
       let blank : isBlank (columnsOf f c) ≡ true = ap isBlank holds ∙ nothing-blank sp t (b .0) in
       let free : neededOn k c f ≡ false = blanked-need k n f there s c o blank ∙ p .free in
       ap (λ x. fieldReading x n form) (sym (p .card-is))
-      ∙ placed-reads k f (p .found) t (b .1) printed Absent (b .0)
-      ∙ ap (λ x. answeredOf f (valueOf x f Absent)) free
+      ∙ placed-reads k f (p .found) t (b .1) printed Absent (b .0) (value-placed (width f) t sp Absent (p .entry))
+      ∙ ap (λ x. answeredOf f false (valueOf x f Absent)) free
 
-  -- a value that was put is the value read
-  pub value-put-back : (v : Value) (card : List ℕ) → puttingOf s n form v ≡ placed card → fieldReading card n form ≡ read.Is v
+  -- a value that was put is the value read, and is not misplaced
+  pub value-put-back : (v : Value) (card : List ℕ) → puttingOf s n form v ≡ placed card → fieldReading card n form ≡ read.Is v false
   unfolding holdsText
   value-put-back v card e = go v e (put-made s n form v card e)
     where
       there : (v : Value) → isAbsent v ≡ false → holdsText (judged.Is v) ≡ false → Put s n form v card
-          → fieldReading card n form ≡ read.Is v
+          → fieldReading card n form ≡ read.Is v false
       there v a x p =
           ap (λ c. fieldReading c n form) (sym (p .card-is))
           ∙ value-read-back s n form (p .code) (p .field) (p .found) v (p .columns) (p .entry) (p .ranged) a x
 
-      go : (v : Value) → puttingOf s n form v ≡ placed card → Put s n form v card → fieldReading card n form ≡ read.Is v
+      go : (v : Value) → puttingOf s n form v ≡ placed card → Put s n form v card → fieldReading card n form ≡ read.Is v false
       go Absent e p = absent-back card e p
       go (Whole z) e p = there (Whole z) refl refl p
       go (Decimal d) e p = there (Decimal d) refl refl p
@@ -131,11 +132,11 @@ module _ (s : List ℕ) (n form : ℕ) where
   -- and its columns are read from the field's first one on
   pub text-columns-back : (k : ℕ) (f : Field) → soughtOf s n form ≡ sought.Is k f → (x card : List ℕ)
       → puttingTextOf s n form x ≡ placed card
-      → fieldReading card n form ≡ read.Is (Text (record { first = f .first; last = f .first - 1 + length x }))
+      → fieldReading card n form ≡ read.Is (Text (record { first = f .first; last = f .first - 1 + length x })) false
   unfolding answeredOf valueOf
   text-columns-back k f q x card e = go (text-made s n form x card e)
     where
-      go : PlacedText s n form x card → fieldReading card n form ≡ read.Is (textFrom (f .first) (f .first - 1 + length x))
+      go : PlacedText s n form x card → fieldReading card n form ≡ read.Is (textFrom (f .first) (f .first - 1 + length x)) false
       go p =
           let g = p .field in
           let t = p .columns in
@@ -145,4 +146,5 @@ module _ (s : List ℕ) (n form : ℕ) where
           let printed = text-printed (width g) t sp x (p .entry) in
           ap (λ c. fieldReading c n form) (sym (p .card-is))
           ∙ placed-reads (p .code) g (p .found) t wide printed (textFrom 1 (length x)) (text-says sp (width g) x t (p .entry))
-          ∙ ap (λ (y : Field). read.Is (textFrom (y .first) (y .first - 1 + length x))) same
+          (text-placed sp (width g) x t (p .entry))
+          ∙ ap (λ (y : Field). read.Is (textFrom (y .first) (y .first - 1 + length x)) false) same

@@ -12,12 +12,13 @@ use Rattle.value_date.specs.Dates.{datedOf, dateOf, dateIn}
 use Rattle.value_coordinate.specs.axes.Axes.{boundOf, letterOf}
 use Rattle.value_coordinate.specs.angle.Angles.{paddedOf, partsOf, isSpelled, angledOf, angleOf}
 use Rattle.value_coordinate.specs.coordinate_entry.Plotting.{angleIn}
-use Rattle.value_field.specs.spelling.Reading.{readingOf}
+use Rattle.value_text.specs.text.Texts.{textEnd, textOf}
+use Rattle.value_field.specs.spelling.Reading.{numberIn, pushedLeft, readingOf, misplacedIn}
 use Rattle.value_field.specs.writing.Writing.{rewrittenOf, againIn, entryOf, unitsIn, dayIn, arcIn}
 use Rattle.card_laws.specs.rewriting.Edges.{found, edges}
 
 pub edge : map found edges ≡ edges
-unfolding readingOf rewrittenOf againIn entryOf unitsIn dayIn arcIn
+unfolding textEnd textOf numberIn pushedLeft readingOf misplacedIn rewrittenOf againIn entryOf unitsIn dayIn arcIn
     blanks unpadded leading behind valueFrom digits sizeUpTo rightAdjusted
     pointOf figuresOf signedOf heldOf signOf numberOf sign plain spelled unitsAt decimalIn
     isLeap isShort daysIn isDate datedOf dateOf dateIn

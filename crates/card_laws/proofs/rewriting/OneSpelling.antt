@@ -1,8 +1,8 @@
--- Two cards that are alike outside a field and say the same in it become one card when that value is put.
+-- Two cards that are alike outside a field and say the same in it, misplaced or not, become one card when that value is put.
 use Prim.Native.Nat.{ℕ}
 use mathlib.Core.Path.{_≡_, sym, ap, _∙_}
 use mathlib.Core.List.{List}
-use mathlib.Core.Bool.{false}
+use mathlib.Core.Bool.{Bool, false}
 use Rattle.base_value.specs.declared.Columns.{Columns}
 use Rattle.base_value.specs.declared.Value.{Value}
 use Rattle.base_value.specs.declared.Value.the-variants.{Text}
@@ -26,8 +26,8 @@ pub record OneCard (s r : List ℕ) (n form : ℕ) (v : Value) : Type 0 where
 
 module _ (s r : List ℕ) (n form k : ℕ) (f : Field) (q : soughtOf s n form ≡ sought.Is k f) (o : Outside f s r) where
   -- a value that is no text
-  pub one-card : (v : Value) → holdsText (judged.Is v) ≡ false → fieldReading s n form ≡ read.Is v
-      → fieldReading r n form ≡ read.Is v → OneCard s r n form v
+  pub one-card : (v : Value) {a b : Bool} → holdsText (judged.Is v) ≡ false → fieldReading s n form ≡ read.Is v a
+      → fieldReading r n form ≡ read.Is v b → OneCard s r n form v
   one-card v x e d =
       let a = value-rewritten s n form v e x in
       let b = was-read r n form v d in
@@ -35,7 +35,7 @@ module _ (s r : List ℕ) (n form k : ℕ) (f : Field) (q : soughtOf s n form �
       record { card = a .card; from-one = a .put; from-other = same ∙ a .put }
 
   -- a text has one spelling only: cards that hand back the same one are the same
-  pub one-text : (c d : Columns) → fieldReading s n form ≡ read.Is (Text c) → fieldReading r n form ≡ read.Is (Text d)
+  pub one-text : (c d : Columns) {a b : Bool} → fieldReading s n form ≡ read.Is (Text c) a → fieldReading r n form ≡ read.Is (Text d) b
       → fieldText s n form ≡ fieldText r n form → s ≡ r
   one-text c d e h t =
       let b = was-read r n form (Text d) h in

@@ -112,7 +112,7 @@ judgeRows s form =
 
 -- the refusal in each operation's answer
 abbrev pub inReading : FieldRead → Option Refusal
-inReading (read.Is v) = none
+inReading (read.Is v misplaced) = none
 inReading (read.Refused r) = some r
 
 abbrev pub inEntry : Entered → Option Refusal

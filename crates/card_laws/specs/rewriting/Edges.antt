@@ -2,6 +2,7 @@
 use Prim.Native.Nat.{ℕ}
 use Prim.Native.Char.{code}
 use Prim.Native.String.{String, [] as ε, _∷_ as _▸_}
+use mathlib.Core.Bool.{Bool, cond}
 use mathlib.Core.List.{List, [], _∷_}
 use lib.IntN.{ℤ, pos, negsuc}
 use Rattle.base_digits.specs.digits.Columns.{enteredIn}
@@ -12,22 +13,23 @@ use Rattle.base_value.specs.declared.Reading.the-variants.{Held, Malformed, Out
 use Rattle.base_value.specs.Reading.{refusalOf}
 use Rattle.value_field.specs.declared.spelling.Spelling.{Spelling}
 use Rattle.value_field.specs.declared.spelling.Spelling.the-variants.{Decimal, Date, Latitude, Longitude}
-use Rattle.value_field.specs.spelling.Reading.{readingOf}
+use Rattle.value_field.specs.spelling.Reading.{readingOf, misplacedIn}
 use Rattle.value_field.specs.writing.Writing.{rewrittenOf}
 
 abbrev pub bytes : String → List ℕ
 bytes ε = []
 bytes (c ▸ s) = code c ∷ bytes s
 
--- what columns say: a value, or the paper's number of a refusal
+-- what columns say: a value, one that is misplaced, or the paper's number of a refusal
 pub data Said : Type 0 where
   says : Value → Said
+  misplaces : Value → Said
   refuses : ℕ → Said
 
-abbrev pub saidBy : Reading → Said
-saidBy (Held v) = says v
-saidBy Malformed = refuses (refusalOf Malformed)
-saidBy OutOfRange = refuses (refusalOf OutOfRange)
+abbrev pub saidBy : Bool → Reading → Said
+saidBy misplaced (Held v) = cond misplaced (misplaces v) (says v)
+saidBy misplaced Malformed = refuses (refusalOf Malformed)
+saidBy misplaced OutOfRange = refuses (refusalOf OutOfRange)
 
 -- a spelling, the columns, what they say, and the columns rewritten: as they were where they say nothing
 pub record Case : Type 0 where
@@ -39,6 +41,10 @@ pub record Case : Type 0 where
 -- columns that are read, and rewritten
 abbrev pub reads : Spelling → String → Value → String → Case
 reads k s v t = record { spelling = k; columns = bytes s; said = says v; again = bytes t }
+
+-- the same of a number that is misplaced
+abbrev pub readsLeft : Spelling → String → Value → String → Case
+readsLeft k s v t = record { spelling = k; columns = bytes s; said = misplaces v; again = bytes t }
 
 -- columns that are refused, with the number
 abbrev pub refused : Spelling → String → ℕ → Case
@@ -56,7 +62,7 @@ edges =
     ∷ reads Decimal "+7." (decimal (pos 7) 0) "  7"
     ∷ reads Decimal "-0.0" (decimal (pos 0) 1) " 0.0"
     ∷ refused Decimal "1 2" 9
-    ∷ refused Decimal "12 " 9
+    ∷ readsLeft Decimal "12 " (decimal (pos 12) 0) " 12"
     ∷ refused Decimal "." 9
     ∷ reads Latitude "0900000.000N" (value.Angle (pos 324000000)) "0900000.000N"
     ∷ refused Latitude "0900000.001N" 10
@@ -72,6 +78,6 @@ found c =
     record {
       spelling = c .spelling;
       columns = c .columns;
-      said = saidBy (readingOf (c .spelling) (c .columns));
+      said = saidBy (misplacedIn (c .spelling) (c .columns)) (readingOf (c .spelling) (c .columns));
       again = enteredIn (rewrittenOf (c .spelling) (c .columns)) (c .columns);
     }

@@ -1,6 +1,14 @@
 -- `card_check::offences::offence_in` meets its contract.
 use denote.Ref.{now}
-use mathlib.Core.Path.{sym, _∙_}
+use native.Mathlib.Omega.{arith}
+use mathlib.Core.Path.{sym, ap, _∙_}
+use mathlib.Core.Bool.{true, false}
+use lib.ListN.{length}
+use Rattle.base_value.specs.Reading.{offenceOf}
+use Rattle.value_number.specs.number.Reading.{numberOf}
+use Rattle.value_number.specs.packed.Shapes.{sizeOf}
+use Rattle.value_text.specs.text.Texts.{textOf}
+use Rattle.value_field.proofs.spelling.Standing.{stretch-le}
 use Rattle.card_check.proofs.offences.Sizes.{few}
 use Rattle.card_check.proofs.offences.Offences.{as-text, as-comment, as-whole, as-decimal, as-date, as-latitude, as-longitude}
 use Rattle.format_layout.specs.packed.Rows.{unpack}
@@ -26,6 +34,9 @@ text-offence-requires-2 c κs = search needs
 enum-told-3 : tie.Need-enum-told-3
 enum-told-3 c = search needs
 
+stretch-requires : tie.Need-stretch-requires
+stretch-requires c κs = search needs
+
 whole-size-requires : tie.Need-whole-size-requires
 whole-size-requires c κs = search needs
 
@@ -35,10 +46,15 @@ whole-offence-requires c κs = search needs
 enum-told-4 : tie.Need-enum-told-4
 enum-told-4 c = search needs
 
+stretch-requires-2 : tie.Need-stretch-requires-2
+stretch-requires-2 c κs = search needs
+
 decimal-shape-requires : tie.Need-decimal-shape-requires
 decimal-shape-requires c κs =
-    let a = c .before .before .before .before in
-    few (unpack (a .args .row) .kind) _ (sym (c .before .before .kind-of .ensures) ∙ c .enum-told4 .given .1) (a .pre .1)
+    let k = c .before in
+    let a = k .before .before .before .before in
+    let w = few (unpack (a .args .row) .kind) _ (sym (k .before .before .kind-of .ensures) ∙ k .enum-told4 .given .1) (a .pre .1) in
+    omega (arith, w, stretch-le (now (a .args .s)), ap length (c .stretch2 .ensures))
 
 enum-told-5 : tie.Need-enum-told-5
 enum-told-5 c = search needs
@@ -69,15 +85,19 @@ returns-2 c = c .text-offence2 .ensures ∙ as-comment (unpack (c .before .befor
 
 returns-3 : tie.Need-returns-3
 returns-3 c =
-    let a = c .before .before .before .before .before .before .args in
-    c .whole-offence .ensures (now (a .s)) (c .before .whole-size .ensures .0)
-    ∙ as-whole (unpack (a .row)) _ (now (a .s)) (sym (c .before .before .before .before .kind-of .ensures) ∙ c .before .before .enum-told3 .given .1)
+    let t = c .before .before in
+    let k = t .before .before .before in
+    let a = k .before .before .args in
+    c .whole-offence .ensures (textOf (now (a .s))) (c .before .whole-size .ensures .0 ∙ ap (λ u. sizeOf (numberOf false u)) (t .stretch .ensures))
+    ∙ as-whole (unpack (a .row)) _ (now (a .s)) (sym (k .kind-of .ensures) ∙ t .before .enum-told3 .given .1)
 
 returns-4 : tie.Need-returns-4
 returns-4 c =
-    let a = c .before .before .before .before .before .args in
-    c .decimal-shape .ensures
-    ∙ as-decimal (unpack (a .row)) _ (now (a .s)) (sym (c .before .before .before .kind-of .ensures) ∙ c .before .enum-told4 .given .1)
+    let t = c .before in
+    let k = t .before .before .before in
+    let a = k .before .before .args in
+    c .decimal-shape .ensures ∙ ap (λ u. offenceOf (numberOf true u)) (t .stretch2 .ensures)
+    ∙ as-decimal (unpack (a .row)) _ (now (a .s)) (sym (k .kind-of .ensures) ∙ t .before .enum-told4 .given .1)
 
 returns-5 : tie.Need-returns-5
 returns-5 c = c .read-offence .ensures ∙ as-date (unpack (c .before .before .before .before .before .before .args .row)) _ (now (c .before .before .before .before .before .before .args .s)) (sym (c .before .before .before .before .kind-of .ensures) ∙ c .before .before .enum-told5 .given .1) _ (c .before .read-date .ensures)
@@ -98,9 +118,11 @@ offence-in-spec =
     enum-told-2
     text-offence-requires-2
     enum-told-3
+    stretch-requires
     whole-size-requires
     whole-offence-requires
     enum-told-4
+    stretch-requires-2
     decimal-shape-requires
     enum-told-5
     read-date-requires
