@@ -31,7 +31,7 @@ use Rattle.card_field.specs.declared.judging.Judged.the-variants as judged
 use Rattle.card_field.specs.declared.FieldRead.the-variants as read
 use Rattle.card_field.specs.seeking.Card.{coded, soughtOf}
 use Rattle.card_field.specs.needing.Needs.{neededOn, columnsOf}
-use Rattle.card_field.specs.judging.Fields.{spellingOf, valueOf, heldOf, judgedOf, numberOf}
+use Rattle.card_field.specs.judging.Fields.{spellingOf, valueOf, heldOf, judgedOf, numberOf, misplacedOn}
 use Rattle.card_field.specs.Reading.{answeredOf, fieldOn, fieldReading}
 use Rattle.card_field.proofs.seeking.Steps.{form-good, sought-coded}
 use Rattle.card_check.specs.Judging.{isCoordinate, fieldOffence, columnOffence, offenceAt}
@@ -79,28 +79,28 @@ same-spelling kind.Date form e = refl
 same-spelling kind.Latitude form e = absurd (let z : _≡_ {A = ℕ} 0 1 = cc in omega arith)
 same-spelling kind.Longitude form e = absurd (let z : _≡_ {A = ℕ} 0 1 = cc in omega arith)
 
--- a field without an offence says a value
-says-value : (needed : Bool) (f : Field) (r : Reading) → numberOf (heldOf needed f r) ≡ 0
-    → (v : Value) × (answeredOf f (heldOf needed f r) ≡ read.Is v)
+-- a field without an offence says a value, misplaced or not
+says-value : (needed left : Bool) (f : Field) (r : Reading) → numberOf (heldOf needed f r) ≡ 0
+    → (v : Value) × (answeredOf f left (heldOf needed f r) ≡ read.Is v left)
 unfolding heldOf valueOf answeredOf
-says-value needed f reading.Malformed e = absurd (omega arith)
-says-value needed f reading.OutOfRange e = absurd (omega arith)
-says-value needed f (reading.Held Absent) e = go needed e
+says-value needed left f reading.Malformed e = absurd (omega arith)
+says-value needed left f reading.OutOfRange e = absurd (omega arith)
+says-value needed left f (reading.Held Absent) e = go needed e
   where
     go : (b : Bool) → numberOf (cond b (judged.Not 11) (judged.Is Absent)) ≡ 0
-        → (v : Value) × (answeredOf f (cond b (judged.Not 11) (judged.Is Absent)) ≡ read.Is v)
+        → (v : Value) × (answeredOf f left (cond b (judged.Not 11) (judged.Is Absent)) ≡ read.Is v left)
     go true e = absurd (omega arith)
     go false e = (Absent, refl)
-says-value needed f (reading.Held (Whole z)) e = go (inRange (f .range) z) e
+says-value needed left f (reading.Held (Whole z)) e = go (inRange (f .range) z) e
   where
     go : (b : Bool) → numberOf (cond b (judged.Is (Whole z)) (judged.Not 10)) ≡ 0
-        → (v : Value) × (answeredOf f (cond b (judged.Is (Whole z)) (judged.Not 10)) ≡ read.Is v)
+        → (v : Value) × (answeredOf f left (cond b (judged.Is (Whole z)) (judged.Not 10)) ≡ read.Is v left)
     go true e = (Whole z, refl)
     go false e = absurd (omega arith)
-says-value needed f (reading.Held (Decimal d)) e = (Decimal d, refl)
-says-value needed f (reading.Held (Angle z)) e = (Angle z, refl)
-says-value needed f (reading.Held (Date d)) e = (Date d, refl)
-says-value needed f (reading.Held (Text c)) e = (_, refl)
+says-value needed left f (reading.Held (Decimal d)) e = (Decimal d, refl)
+says-value needed left f (reading.Held (Angle z)) e = (Angle z, refl)
+says-value needed left f (reading.Held (Date d)) e = (Date d, refl)
+says-value needed left f (reading.Held (Text c)) e = (_, refl)
 
 -- the code of a card that a layout reads
 coded-by : (c : Code) (k : ℕ) → layoutNumber c ≡ k → k < unread → c ≡ code.Read k
@@ -140,9 +140,10 @@ module _ (h : List ℕ) (a : refusalOf h ≡ Accepted) (c : ℕ) (l : c < cardsI
         go true z = z
         go false z = z
 
-    -- and its reading is a value
-    pub field-read : isCoordinate (f .kind) ≡ false → (v : Value) × (fieldReading (cardAt h c) n 0 ≡ read.Is v)
+    -- and its reading is a value, and says whether that is misplaced
+    pub field-read : isCoordinate (f .kind) ≡ false
+        → (v : Value) × (fieldReading (cardAt h c) n 0 ≡ read.Is v (misplacedOn (cardAt h c) f Angles))
     unfolding fieldReading fieldOn judgedOf formNumbered
     field-read o =
-        let r = says-value (neededOn k (cardAt h c) f) f (readingOf (spellingOf (f .kind) Angles) (columnsOf f (cardAt h c))) (no-offence o) in
+        let r = says-value (neededOn k (cardAt h c) f) (misplacedOn (cardAt h c) f Angles) f (readingOf (spellingOf (f .kind) Angles) (columnsOf f (cardAt h c))) (no-offence o) in
         (r .0, rw field-found (r .1))

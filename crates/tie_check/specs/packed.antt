@@ -6,4 +6,5 @@ pub mod Totals
 pub mod Kinds
 pub mod Asked
 pub mod Stored
+pub mod Begins
 pub mod Listed

@@ -12,7 +12,7 @@ ghost use Rattle.tie_check.specs.packed.Stored.{storedAll, entriesFor};
 // How many numbers an entry has: card, column, kind, vessel.
 pub const ENTRY: usize = 4;
 
-// Which kinds of fault a column has.
+// Which kinds of broken tie a column has.
 pub struct Broken {
     pub undefined: bool,
     pub redefined: bool,
@@ -23,7 +23,7 @@ pub struct Broken {
 
 // An entry, where it fits whole.
 fn put(list: &mut [u32], at: usize, card: u32, column: u32, kind: u32, vessel: u32)
-    requires { ⌜ at ≤ 1600000 ⌝ }
+    requires { ⌜ at ≤ 16000000 ⌝ }
     ensures { λ _. ⌜ now (list .exit) ≡ stored (now (list .entry)) at (card ∷ column ∷ kind ∷ vessel ∷ []) ⌝ }
 {
     if list.len() < at + ENTRY {
@@ -45,7 +45,7 @@ fn put_if(
     kind: u32,
     vessel: u32,
 ) -> usize
-    requires { ⌜ found ≤ 400000 ⌝ }
+    requires { ⌜ found ≤ 4000000 ⌝ }
     ensures list { λ _. ⌜ now (list .exit)
         ≡ cond fault (stored (now (list .entry)) (entrySize * found) (card ∷ column ∷ kind ∷ vessel ∷ [])) (now (list .entry)) ⌝ }
     ensures number { λ r. ⌜ r ≡ found + bit fault ⌝ }
@@ -58,23 +58,25 @@ fn put_if(
     found
 }
 
-// The entries of a column, kind by kind.
+// The entries of a column, kind by kind; the last is that of a misplaced number.
 pub fn put_all(
     list: &mut [u32],
     found: usize,
     broken: Broken,
+    misplaced: bool,
     card: u32,
     column: u32,
     vessel: u32,
 ) -> usize
-    requires { ⌜ found ≤ 300000 ⌝ }
-    ensures list { λ _. ⌜ now (list .exit) ≡ storedAll (now (list .entry)) found (entriesFor broken card column vessel) ⌝ }
-    ensures number { λ r. ⌜ r ≡ found + length (entriesFor broken card column vessel) ⌝ }
+    requires { ⌜ found ≤ 3000000 ⌝ }
+    ensures list { λ _. ⌜ now (list .exit) ≡ storedAll (now (list .entry)) found (entriesFor broken misplaced card column vessel) ⌝ }
+    ensures number { λ r. ⌜ r ≡ found + length (entriesFor broken misplaced card column vessel) ⌝ }
     ensures few { λ r. ⌜ r ≤ found + kinds ⌝ }
 {
     let a = put_if(list, found, broken.undefined, card, column, 1, vessel);
     let b = put_if(list, a, broken.redefined, card, column, 2, vessel);
     let c = put_if(list, b, broken.ambiguous, card, column, 3, vessel);
     let d = put_if(list, c, broken.contradicted, card, column, 4, vessel);
-    put_if(list, d, broken.miscounted, card, column, 5, vessel)
+    let e = put_if(list, d, broken.miscounted, card, column, 5, vessel);
+    put_if(list, e, misplaced, card, column, 6, vessel)
 }

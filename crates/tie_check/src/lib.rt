@@ -1,4 +1,5 @@
 // The ties between the cards of a header: the list of those that are broken.
+pub mod begins;
 pub mod entries;
 pub mod gather;
 pub mod judging;

@@ -1,4 +1,5 @@
 // All broken ties of a header, in order, in a lent list as far as they fit.
+use crate::begins;
 use crate::entries;
 use crate::gather;
 use crate::judging;
@@ -8,7 +9,6 @@ use crate::totals::Totals;
 use format_layout::CARD;
 use format_layout::CARDS;
 use header_check::Checked;
-use tie_rules::SLOTS;
 use tie_rules::keys;
 use tie_store::LINKS;
 use tie_store::ROOM;
@@ -25,7 +25,10 @@ ghost use Rattle.tie_check.specs.packed.Totals.{totalsOf};
 ghost use Rattle.tie_check.specs.packed.Listed.{cardEntries};
 ghost use Rattle.tie_check.specs.packed.Stored.{storedAll};
 
-// The faults of the card with a number, from 0, at the columns that can carry a tie.
+// No walk over a card takes more steps.
+const STEPS: usize = 81;
+
+// The faults of the card with a number, from 0.
 fn list_card(
     list: &mut [u32],
     found: usize,
@@ -40,33 +43,36 @@ fn list_card(
     requires { ⌜ Noted (now header) (cardsIn (now header)) (now layouts) ⌝ }
     requires { ⌜ (now store ≡ gathered (now header) .keys) × (now links ≡ gathered (now header) .links) ⌝ }
     requires { ⌜ totals ≡ totalsOf (now header) ⌝ }
-    requires { ⌜ (place < cardsIn (now header)) × (found ≤ 5 * kinds * place) ⌝ }
+    requires { ⌜ (place < cardsIn (now header)) × (found ≤ 81 * kinds * place) ⌝ }
     ensures list { λ _. ⌜ now (list .exit)
         ≡ storedAll (now (list .entry)) found (cardEntries (now (header .entry)) place) ⌝ }
     ensures number { λ r. ⌜ r ≡ found + length (cardEntries (now (header .entry)) place) ⌝ }
-    ensures few { λ r. ⌜ r ≤ found + 5 * kinds ⌝ }
+    ensures few { λ r. ⌜ r ≤ found + 81 * kinds ⌝ }
 {
     let from = place * CARD;
     let card = &header[from..from + CARD];
     let layout = layouts[place];
     let vessel = keys::vessel_of(card, layout);
+    let left = begins::any_left(card, layout);
     let mut m = found;
-    let mut slot: usize = 0;
-    while slot < SLOTS {
-        let row = tie_rules::tie_of(layout, slot + 1);
+    let mut i: usize = 0;
+    while i < STEPS {
+        let row = begins::step_of(left, layout, i);
         if row == 0 {
             return m;
         }
         let broken = judging::faults_by(store, links, totals, card, vessel, row);
+        let misplaced = begins::step_left(left, card, layout, i);
         m = entries::put_all(
             list,
             m,
             broken,
+            misplaced,
             (place + 1) as u32,
             keys::column_of(row) as u32,
             vessel as u32,
         );
-        slot += 1;
+        i += 1;
     }
     m
 }

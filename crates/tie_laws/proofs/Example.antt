@@ -6,11 +6,11 @@ use Rattle.base_lists.specs.Parts.{alike, part}
 use Rattle.base_digits.specs.digits.Figures.{blanks, unpadded, leading, behind, valueFrom}
 use Rattle.base_digits.specs.signs.Signs.{signedOf}
 use Rattle.value_number.specs.number.Reading.{pointOf, figuresOf, heldOf as numberHeld, signOf, numberOf}
-use Rattle.value_text.specs.text.Texts.{textEnd, leadingBlank}
+use Rattle.value_text.specs.text.Texts.{textEnd, textOf, leadingBlank}
 use Rattle.value_date.specs.Dates.{dateOf}
 use Rattle.value_coordinate.specs.grid.Grid.{presentOf, gridOf}
 use Rattle.value_coordinate.specs.axes.Axes.{letterOf}
-use Rattle.value_field.specs.spelling.Reading.{textReading, wholeReading, readingOf}
+use Rattle.value_field.specs.spelling.Reading.{textReading, numberIn, wholeReading, readingOf}
 use Rattle.format_layout.specs.Table.{layouts, passedCodes}
 use Rattle.format_layout.specs.Layouts.{layoutAt, fieldsOf, labelOf}
 use Rattle.format_layout.specs.ranges.Ranges.{inRange}
@@ -32,7 +32,7 @@ use Rattle.tie_laws.proofs.ExampleSteps.{by-cards}
 
 pub accepted : refusalOf example ≡ Accepted
 unfolding count first firstFrom alike part blanks unpadded leading behind valueFrom signedOf pointOf figuresOf numberHeld
-    signOf numberOf textEnd leadingBlank dateOf presentOf gridOf letterOf textReading wholeReading
+    signOf numberOf textEnd textOf leadingBlank dateOf presentOf gridOf letterOf textReading numberIn wholeReading
     readingOf layouts passedCodes layoutAt fieldsOf labelOf inRange byteFits fitsAt fits codes placeIn codeAt codeOf firstBad
     columnsOf isBlank spellingOf anySecond neededOn valueOf heldOf judgedOf fieldOffence filledAt gapOffence columnOffence
     labelStands labelOffence offenceAt columnVerdict verdictFrom codeVerdict verdictOf cardAt cardsIn byteIn layoutOf formSaid

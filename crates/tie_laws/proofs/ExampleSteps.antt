@@ -11,18 +11,21 @@ use Rattle.base_digits.specs.digits.Figures.{blanks, unpadded, leading, behind,
 use Rattle.base_digits.specs.signs.Signs.{signedOf}
 use Rattle.value_number.specs.number.Reading.{pointOf, figuresOf, heldOf, signOf, numberOf}
 use Rattle.value_text.specs.text.Texts.{textEnd, textOf}
-use Rattle.value_field.specs.spelling.Reading.{wholeReading, readingOf}
+use Rattle.value_field.specs.spelling.Reading.{numberIn, pushedLeft, wholeReading, readingOf, misplacedIn}
 use Rattle.format_layout.specs.Shape.{bytes}
 use Rattle.format_layout.specs.Table.{layouts, passedCodes}
+use Rattle.format_layout.specs.Layouts.{layoutAt, fieldsOf}
+use Rattle.card_field.specs.needing.Needs.{columnsOf}
+use Rattle.card_field.specs.judging.Fields.{spellingOf, misplacedOn}
 use Rattle.format_code.specs.Codes.{byteFits, fitsAt, fits, codes, placeIn, codeAt, codeOf}
 use Rattle.header_check.specs.forms.Cards.{cardAt, cardsIn, byteIn, layoutOf}
 use Rattle.tie_rules.specs.Ties.{ties, lineIn, lineFor, hasVessel, statesOwn, statesCount}
 use Rattle.tie_rules.specs.Keys.{isNone, between, wholeKey, wholeIn, paired, keyIn, classAt, keyAt, holdsKey, vesselOf, contradict}
 use Rattle.tie_rules.specs.Definitions.{places, cardOf, columnOf, definitionsOf, contradictionsOf}
-use Rattle.tie_rules.specs.Faults.{definitionsAt, undefined, redefined, ambiguous, contradicted, differs, miscounted}
+use Rattle.tie_rules.specs.Faults.{definitionsAt, undefined, redefined, ambiguous, contradicted, differs, miscounted, misplacedAmong, misplaced}
 use Rattle.tie_rules.specs.Faults.{kinds, brokenOn, broken}
 use Rattle.tie_laws.proofs.Complete.{listOf}
-use Rattle.tie_laws.proofs.Sites.{hasLine, isSite}
+use Rattle.tie_laws.proofs.Sites.{hasLine, numberAmong, isSite}
 use Rattle.tie_laws.proofs.CardByCard.{sitesOf, entriesOn, card-by-card}
 use Rattle.tie_laws.proofs.Collected.{Definition, collected, isOf, definitions-collected, contradictions-collected}
 use Rattle.tie_laws.proofs.ExampleCards.{lineCard, streamerCard, nodeCard, otherNodeCard, compassCard, example}
@@ -39,7 +42,7 @@ defined =
 
 all-defined : collected example ≡ defined
 unfolding count alike part kept upTo blanks unpadded leading behind valueFrom signedOf pointOf figuresOf heldOf signOf
-    numberOf textEnd textOf wholeReading readingOf layouts passedCodes byteFits fitsAt fits codes placeIn codeAt codeOf cardAt
+    numberOf textEnd textOf numberIn wholeReading readingOf layouts passedCodes byteFits fitsAt fits codes placeIn codeAt codeOf cardAt
     cardsIn byteIn layoutOf ties lineIn lineFor hasVessel isNone between wholeKey wholeIn paired keyIn classAt keyAt holdsKey
     vesselOf places cardOf columnOf collected example
 all-defined = refl
@@ -91,10 +94,11 @@ against : contradictionsOf example 2 (1 ∷ []) 2 ≡ 1
 unfolding kept isOf alike contradict
 against = against-times 2 (1 ∷ []) 2
 
--- cards 1 to 8 have no column that could carry a fault
+-- cards 1 to 8 can carry only misplaced numbers, and have none
 first-eight : flatMap (entriesOn example) (upTo 8) ≡ []
 unfolding kept part upTo flatMap layouts passedCodes byteFits fitsAt fits codes placeIn codeAt codeOf cardAt layoutOf ties
-    lineIn lineFor hasLine statesOwn statesCount isSite sitesOf entriesOn example
+    lineIn lineFor hasLine statesOwn statesCount layoutAt fieldsOf spellingOf numberAmong isSite sitesOf textEnd columnsOf
+    pushedLeft misplacedIn misplacedOn misplacedAmong misplaced brokenOn broken entriesOn example
 first-eight = refl
 
 -- the other five, the sites of their layouts, and the faults there
@@ -110,23 +114,30 @@ abbrev site : ℕ → ℕ → ℕ
 site column kind = kinds * (column - 1) + (kind - 1)
 
 abbrev lineSites : List ℕ
-lineSites = site 30 2 ∷ site 30 4 ∷ site 79 5 ∷ []
+lineSites =
+    site 30 2 ∷ site 30 4 ∷ site 30 6 ∷ site 32 6 ∷ site 59 6 ∷ site 66 6 ∷ site 70 6 ∷ site 77 6 ∷ site 79 5 ∷ site 79 6 ∷ []
 
 abbrev streamerSites : List ℕ
-streamerSites = site 7 2 ∷ []
+streamerSites =
+    site 7 2 ∷ site 7 6 ∷ site 11 6 ∷ site 19 6 ∷ site 27 6 ∷ site 35 6 ∷ site 43 6 ∷ site 51 6 ∷ site 58 6 ∷ site 66 6 ∷ []
 
 abbrev nodeSites : List ℕ
-nodeSites = site 7 1 ∷ site 7 3 ∷ site 7 4 ∷ site 11 2 ∷ site 16 2 ∷ site 36 2 ∷ site 41 2 ∷ []
+nodeSites =
+    site 7 1 ∷ site 7 3 ∷ site 7 4 ∷ site 7 6 ∷ site 11 2 ∷ site 11 6 ∷ site 16 2 ∷ site 25 6 ∷ site 34 6 ∷ site 36 2 ∷
+    site 36 6 ∷ site 41 2 ∷ site 50 6 ∷ site 59 6 ∷ []
 
 abbrev compassSites : List ℕ
-compassSites = site 7 1 ∷ site 7 3 ∷ site 7 4 ∷ []
+compassSites =
+    site 7 1 ∷ site 7 3 ∷ site 7 4 ∷ site 15 6 ∷
+    site 21 6 ∷ site 24 6 ∷ site 28 6 ∷ site 31 6 ∷ site 35 6 ∷ site 38 6 ∷ site 42 6 ∷ site 45 6 ∷
+    site 49 6 ∷ site 52 6 ∷ site 56 6 ∷ site 59 6 ∷ site 63 6 ∷ site 66 6 ∷ site 70 6 ∷ site 73 6 ∷ []
 
 abbrev fiveSites : List (List ℕ)
 fiveSites = lineSites ∷ streamerSites ∷ nodeSites ∷ nodeSites ∷ compassSites ∷ []
 
 their-sites : map (λ s. sitesOf (layoutOf s)) five ≡ fiveSites
 unfolding kept upTo layouts passedCodes byteFits fitsAt fits codes placeIn codeAt codeOf layoutOf ties lineIn lineFor hasLine
-    statesOwn statesCount isSite sitesOf
+    statesOwn statesCount layoutAt fieldsOf spellingOf numberAmong isSite sitesOf
 their-sites = refl
 
 -- the entries of a card by its bytes, from some sites
@@ -152,7 +163,8 @@ their-entries :
 unfolding alike kept blanks unpadded leading behind valueFrom signedOf pointOf figuresOf heldOf signOf numberOf textEnd textOf
     wholeReading readingOf layouts passedCodes byteFits fitsAt fits codes placeIn codeAt codeOf byteIn layoutOf ties lineIn
     lineFor hasVessel isNone between wholeKey wholeIn paired keyIn classAt keyAt holdsKey vesselOf definitionsAt undefined
-    redefined ambiguous statesOwn contradicted differs miscounted brokenOn entriesFrom
+    redefined ambiguous statesOwn contradicted differs miscounted layoutAt fieldsOf spellingOf columnsOf numberIn pushedLeft
+    misplacedIn misplacedOn misplacedAmong misplaced brokenOn entriesFrom
 their-entries = rw (one-line, one-streamer, two-nodes, one-node, serial-17, serial-18, no-serial, not-against, against)
 
 other-five : flatMap (entriesOn example) (8 ∷ 9 ∷ 10 ∷ 11 ∷ 12 ∷ []) ≡ four

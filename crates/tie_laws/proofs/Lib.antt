@@ -5,6 +5,7 @@ pub mod Sites
 pub mod Complete
 pub mod Places
 pub mod Moved
+pub mod Misplaced
 pub mod Rearranged
 pub mod Questions
 pub mod Counts

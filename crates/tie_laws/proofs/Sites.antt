@@ -1,17 +1,26 @@
--- Where a fault can stand: only in columns that have a line in the table, or that state a vessel or a count.
-use Prim.Native.Nat.{ℕ, _≤_}
+-- Where a fault can stand: in columns that have a line in the table, that state a vessel or a count, or where a number begins.
+use Prim.Native.Nat.{ℕ, suc, _+_, _≤_}
 use native.Mathlib.Omega.{arith}
 use mathlib.Core.Path.{_≡_, refl}
 use mathlib.Core.Logic.{_⊎_, inl, inr, ⊎-elim}
 use mathlib.Core.Bool.{Bool, true, false, cond, _&&_, _||_, not, false≢true}
 use mathlib.Core.List.{List, [], _∷_}
-use lib.Dec.{eqb, leb}
+use lib.Dec.{T, eqb, leb}
+use lib.ListN.{length}
 use borrow.Author.Tests.{eqb-true, leb-true}
+use Rattle.value_field.specs.spelling.Reading.{pushedLeft, isNumber, misplacedIn}
+use Rattle.format_layout.specs.declared.Field.{Field}
+use Rattle.format_layout.specs.declared.Form.the-variants.{Angles}
+use Rattle.format_layout.specs.Layouts.{fieldsOf, labelOf}
+use Rattle.format_layout.proofs.Columns.{inOrder, front, rest}
+use Rattle.card_field.specs.needing.Needs.{columnsOf}
+use Rattle.card_field.specs.judging.Fields.{spellingOf, misplacedOn}
+use Rattle.card_check.proofs.Walked.{in-order}
 use Rattle.header_check.specs.forms.Cards.{cardAt, layoutOf}
 use Rattle.tie_rules.specs.Ties.{Source, digit, whole, serial, waypoint, only, nothing, Role, defines, refers, sameRole, Tie, ties, isFor, lineIn, lineFor, statesOwn, statesCount}
 use Rattle.format_layout.specs.Names.{H00X8, H0100}
 use Rattle.tie_rules.specs.Keys.{isNone, keyIn, keyAt, holdsKey}
-use Rattle.tie_rules.specs.Faults.{undefined, redefined, ambiguous, contradicted, miscounted, kinds, brokenOn, broken}
+use Rattle.tie_rules.specs.Faults.{undefined, redefined, ambiguous, contradicted, miscounted, misplacedAmong, misplaced, kinds, brokenOn, broken}
 use Rattle.tie_laws.proofs.Tests.{both, either}
 
 -- a source that gives a key at all
@@ -27,13 +36,19 @@ gives nothing = false
 unfoldable pub hasLine : Role → ℕ → ℕ → Bool
 hasLine r k column = gives (lineFor r k column .source)
 
+-- a field that begins in a column holds a whole number or a decimal
+unfoldable pub numberAmong : List Field → ℕ → Bool
+numberAmong [] column = false
+numberAmong (f ∷ fs) column = (eqb (f .first) column && isNumber (spellingOf (f .kind) Angles)) || numberAmong fs column
+
 -- where a fault of a kind can stand on a card with a layout
 unfoldable pub isSite : ℕ → ℕ → ℕ → Bool
 isSite k column kind =
     cond (eqb kind 1) (hasLine refers k column)
     (cond (eqb kind 2) (hasLine defines k column)
     (cond (eqb kind 3) (hasLine refers k column)
-    (cond (eqb kind 4) (statesOwn k column || hasLine refers k column) (eqb kind 5 && statesCount k column))))
+    (cond (eqb kind 4) (statesOwn k column || hasLine refers k column)
+    (cond (eqb kind 5) (statesCount k column) (eqb kind 6 && numberAmong (fieldsOf k) column)))))
 
 -- one test passes only where another does
 abbrev pub Within : Bool → Bool → Type 0
@@ -89,13 +104,28 @@ module _ (h s : List ℕ) (column : ℕ) where
       go false false true a b = λ e. e
       go false false false a b = λ e. e
 
+  at-number : Within (misplaced s column) (numberAmong (fieldsOf (layoutOf s)) column)
+  unfolding misplaced misplacedAmong numberAmong misplacedOn misplacedIn
+  at-number = go (fieldsOf (layoutOf s))
+    where
+      step : (a x p b c : Bool) → Within b c → Within ((a && (x && p)) || b) ((a && x) || c)
+      step true true p b c f = λ e. refl
+      step true false p b c f = f
+      step false x p b c f = f
+
+      go : (fs : List Field) → Within (misplacedAmong fs s column) (numberAmong fs column)
+      go [] = λ e. e
+      go (f ∷ fs) =
+          step (eqb (f .first) column) (isNumber (spellingOf (f .kind) Angles)) (pushedLeft (columnsOf f s))
+          (misplacedAmong fs s column) (numberAmong fs column) (go fs)
+
   -- a fault stands only at a site
   pub at-site : (kind : ℕ) → brokenOn h s column kind ≡ true → isSite (layoutOf s) column kind ≡ true
   unfolding brokenOn isSite undefined redefined ambiguous
   at-site kind = within-cond (eqb kind 1) (at-reference _)
       (within-cond (eqb kind 2) (at-definition _)
       (within-cond (eqb kind 3) (at-reference _)
-      (within-cond (eqb kind 4) at-vessel (within-right (eqb kind 5) at-count))))
+      (within-cond (eqb kind 4) at-vessel (within-cond (eqb kind 5) at-count (within-right (eqb kind 6) at-number)))))
 
 -- every line of the table is about a column of a card
 abbrev inColumns : List Tie → Bool
@@ -151,6 +181,18 @@ count-column : (k column : ℕ) → statesCount k column ≡ true → IsColumn c
 unfolding statesCount
 count-column k column e = ⊎-elim (λ x. omega arith) (λ x. omega arith) (states-column 8 12 k column 79 16 e)
 
+number-column : (b : ℕ) (fs : List Field) → T (inOrder b fs) → 1 ≤ b → (column : ℕ) → numberAmong fs column ≡ true → IsColumn column
+unfolding numberAmong
+number-column b [] t l column e = absurd (false≢true e)
+number-column b (f ∷ fs) t l column e =
+    let p = front b f fs t in
+    ⊎-elim
+    (λ x.
+    let c : f .first ≡ column = eqb-true (f .first) column (both (eqb (f .first) column) _ .0 x .0) in
+    (omega (arith, p .after), omega (arith, p .forward, p .on-card)))
+    (λ x. number-column (suc (f .last)) fs (rest b f fs t) (omega arith) column x)
+    (either (eqb (f .first) column && isNumber (spellingOf (f .kind) Angles)) (numberAmong fs column) e)
+
 chosen : (kind n : ℕ) (a b : Bool) → cond (eqb kind n) a b ≡ true → ((kind ≡ n) × (a ≡ true)) ⊎ (b ≡ true)
 chosen kind n a b = go (eqb kind n) refl
   where
@@ -158,13 +200,15 @@ chosen kind n a b = go (eqb kind n) refl
     go true q e = inl (eqb-true kind n q, e)
     go false q e = inr e
 
--- a site is in a column of a card, and of one of the five kinds
+-- a site is in a column of a card, and of one of the kinds
 pub site-bounds : (k column kind : ℕ) → isSite k column kind ≡ true → IsColumn column × IsKind kind
 unfolding isSite
 site-bounds k column kind e = ⊎-elim (λ x. (has-line-column refers k column (x .1), (omega arith, omega arith)))
     (λ f. ⊎-elim (λ x. (has-line-column defines k column (x .1), (omega arith, omega arith)))
     (λ g. ⊎-elim (λ x. (has-line-column refers k column (x .1), (omega arith, omega arith)))
-    (λ i. ⊎-elim (λ x. (at-four (x .1), (omega arith, omega arith))) at-five (chosen kind 4 _ _ i)) (chosen kind 3 _ _ g))
+    (λ i. ⊎-elim (λ x. (at-four (x .1), (omega arith, omega arith)))
+    (λ j. ⊎-elim (λ x. (count-column k column (x .1), (omega arith, omega arith))) at-six (chosen kind 5 _ _ j))
+    (chosen kind 4 _ _ i)) (chosen kind 3 _ _ g))
     (chosen kind 2 _ _ f))
     (chosen kind 1 _ _ e)
   where
@@ -172,11 +216,11 @@ site-bounds k column kind e = ⊎-elim (λ x. (has-line-column refers k column (
     at-four x =
         ⊎-elim (own-column k column) (has-line-column refers k column) (either (statesOwn k column) (hasLine refers k column) x)
 
-    at-five : (eqb kind 5 && statesCount k column) ≡ true → IsColumn column × IsKind kind
-    at-five x =
-        let w = both (eqb kind 5) (statesCount k column) .0 x in
-        let q : kind ≡ 5 = eqb-true kind 5 (w .0) in
-        (count-column k column (w .1), (omega arith, omega arith))
+    at-six : (eqb kind 6 && numberAmong (fieldsOf k) column) ≡ true → IsColumn column × IsKind kind
+    at-six x =
+        let w = both (eqb kind 6) (numberAmong (fieldsOf k) column) .0 x in
+        let q : kind ≡ 6 = eqb-true kind 6 (w .0) in
+        (number-column (6 + length (labelOf k)) (fieldsOf k) (in-order k) (omega arith) column (w .1), (omega arith, omega arith))
 
 -- so is a fault
 pub broken-bounds : (h : List ℕ) (c column kind : ℕ) → broken h c column kind ≡ true → IsColumn column × IsKind kind

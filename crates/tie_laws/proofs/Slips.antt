@@ -13,7 +13,8 @@ use Rattle.base_lists.proofs.Comparing.{alike-equal}
 use Rattle.base_digits.specs.digits.Figures.{blanks, unpadded, leading, behind, valueFrom}
 use Rattle.base_digits.specs.signs.Signs.{signedOf}
 use Rattle.value_number.specs.number.Reading.{pointOf, figuresOf, heldOf, signOf, numberOf}
-use Rattle.value_field.specs.spelling.Reading.{wholeReading, readingOf}
+use Rattle.value_text.specs.text.Texts.{textEnd, textOf}
+use Rattle.value_field.specs.spelling.Reading.{numberIn, wholeReading, readingOf}
 use Rattle.format_layout.specs.Table.{layouts, passedCodes}
 use Rattle.format_code.specs.Codes.{byteFits, fitsAt, fits, codes, placeIn, codeAt, codeOf}
 use Rattle.header_check.specs.forms.Cards.{cardAt, cardsIn, byteIn, layoutOf}
@@ -132,14 +133,14 @@ module _ (h : List ℕ) (class : ℕ) (key : List ℕ) where
 
 -- the streamer on H2110 is the one that H2220 refers to, card 12 of the example
 pub referred-to : (classAt refers (cardAt example 11) 7 ≡ 2) × (keyAt refers (cardAt example 11) 7 ≡ 1 ∷ [])
-unfolding part blanks unpadded leading behind valueFrom signedOf pointOf figuresOf heldOf signOf numberOf wholeReading
-    readingOf layouts passedCodes byteFits fitsAt fits codes placeIn codeAt codeOf cardAt layoutOf ties lineIn lineFor between
+unfolding part blanks unpadded leading behind valueFrom signedOf pointOf figuresOf heldOf signOf numberOf textEnd textOf numberIn
+    wholeReading readingOf layouts passedCodes byteFits fitsAt fits codes placeIn codeAt codeOf cardAt layoutOf ties lineIn lineFor between
     wholeKey wholeIn keyIn classAt keyAt example
 referred-to = (refl, refl)
 
 defined-there : definesKey (cardAt example 9) 2 (1 ∷ []) 7 ≡ true
-unfolding alike part blanks unpadded leading behind valueFrom signedOf pointOf figuresOf heldOf signOf numberOf wholeReading
-    readingOf layouts passedCodes byteFits fitsAt fits codes placeIn codeAt codeOf cardAt layoutOf ties lineIn lineFor isNone
+unfolding alike part blanks unpadded leading behind valueFrom signedOf pointOf figuresOf heldOf signOf numberOf textEnd textOf numberIn
+    wholeReading readingOf layouts passedCodes byteFits fitsAt fits codes placeIn codeAt codeOf cardAt layoutOf ties lineIn lineFor isNone
     between wholeKey wholeIn keyIn classAt keyAt holdsKey definesKey example
 defined-there = refl
 

@@ -1,9 +1,13 @@
--- The five kinds of broken tie, and the list of all of them: by card, column, kind.
+-- The five kinds of broken tie, the sixth of a misplaced number, and the list of all of them: by card, column, kind.
 use Prim.Native.Nat.{ℕ, _+_, _*_, _/_, _%_}
 use mathlib.Core.List.{List, [], _∷_, flatMap}
-use mathlib.Core.Bool.{Bool, cond, _&&_, not}
+use mathlib.Core.Bool.{Bool, false, cond, _&&_, _||_, not}
 use lib.Dec.{eqb, ltb}
 use Rattle.base_lists.specs.Parts.{alike, kept, upTo}
+use Rattle.format_layout.specs.declared.Field.{Field}
+use Rattle.format_layout.specs.declared.Form.the-variants.{Angles}
+use Rattle.format_layout.specs.Layouts.{fieldsOf}
+use Rattle.card_field.specs.judging.Fields.{misplacedOn}
 use Rattle.header_check.specs.forms.Cards.{cardAt, cardsIn, layoutOf}
 use Rattle.tie_rules.specs.Ties.{defines, refers, statesOwn}
 use Rattle.format_layout.specs.Names.{H00X8, H0100}
@@ -45,17 +49,27 @@ miscounted h s column =
     cond (eqb (layoutOf s) H00X8 && eqb column 79) (differs (wholeIn 79 80 s) (waypointsOf h (wholeIn 30 30 s)))
     (eqb (layoutOf s) H0100 && eqb column 16 && differs (wholeIn 16 19 s) (pointsOf h))
 
+-- a field that begins in a column has a misplaced number: the form, which says how coordinates are spelled, plays no part
+unfoldable pub misplacedAmong : List Field → List ℕ → ℕ → Bool
+misplacedAmong [] s column = false
+misplacedAmong (f ∷ fs) s column = (eqb (f .first) column && misplacedOn s f Angles) || misplacedAmong fs s column
+
+-- 6: a whole number or a decimal that is misplaced, tied or not
+unfoldable pub misplaced : List ℕ → ℕ → Bool
+misplaced s column = misplacedAmong (fieldsOf (layoutOf s)) s column
+
 -- how many kinds there are
 abbrev pub kinds : ℕ
-kinds = 5
+kinds = 6
 
--- a column of a card of the header has a broken tie of a kind
+-- a column of a card of the header has a fault of a kind
 unfoldable pub brokenOn : List ℕ → List ℕ → ℕ → ℕ → Bool
 brokenOn h s column kind =
     cond (eqb kind 1) (undefined h s column)
     (cond (eqb kind 2) (redefined h s column)
     (cond (eqb kind 3) (ambiguous h s column)
-    (cond (eqb kind 4) (contradicted h s column) (eqb kind 5 && miscounted h s column))))
+    (cond (eqb kind 4) (contradicted h s column)
+    (cond (eqb kind 5) (miscounted h s column) (eqb kind 6 && misplaced s column)))))
 
 -- the same of the card at a place, counted from 0
 unfoldable pub broken : List ℕ → ℕ → ℕ → ℕ → Bool

@@ -1,6 +1,7 @@
 // The keys on one card: what its columns define and what they refer to, each key as one number, by the rows of the table of ties.
 use crate::packing;
 use value_number::shapes;
+use value_text::text;
 ghost use mathlib.Core.Path.{_≡_};
 ghost use Prim.Native.Nat.{_-_};
 ghost use Rattle.base_value.specs.declared.Reading.{Reading};
@@ -124,7 +125,7 @@ fn mark_by(size: u64) -> u64
 pub fn whole_in(card: &[u8], first: usize, last: usize) -> u64
     ensures { λ r. ⌜ r ≡ marked (wholeIn first last (now (card .entry))) ⌝ }
 {
-    mark_by(shapes::whole_size(columns(card, first, last)))
+    mark_by(shapes::whole_size(text::stretch(columns(card, first, last))))
 }
 
 // The digit in a column.

@@ -65,21 +65,23 @@ unfolding storedAll
 kind-more true e es l m k j p q = (rw (p, q, add-one k), omega arith)
 kind-more false e es l m k j p q = (rw (p, q, add-zero k), omega arith)
 
-pub five-kinds : (b : Broken) (card column vessel found : ℕ) (l₀ l₁ l₂ l₃ l₄ l₅ : List ℕ) (k₁ k₂ k₃ k₄ k₅ : ℕ)
+pub all-kinds : (b : Broken) (m : Bool) (card column vessel found : ℕ) (l₀ l₁ l₂ l₃ l₄ l₅ l₆ : List ℕ) (k₁ k₂ k₃ k₄ k₅ k₆ : ℕ)
     → l₁ ≡ cond (b .undefined) (stored l₀ (entrySize * found) (card ∷ column ∷ 1 ∷ vessel ∷ [])) l₀ → k₁ ≡ found + bit (b .undefined)
     → l₂ ≡ cond (b .redefined) (stored l₁ (entrySize * k₁) (card ∷ column ∷ 2 ∷ vessel ∷ [])) l₁ → k₂ ≡ k₁ + bit (b .redefined)
     → l₃ ≡ cond (b .ambiguous) (stored l₂ (entrySize * k₂) (card ∷ column ∷ 3 ∷ vessel ∷ [])) l₂ → k₃ ≡ k₂ + bit (b .ambiguous)
     → l₄ ≡ cond (b .contradicted) (stored l₃ (entrySize * k₃) (card ∷ column ∷ 4 ∷ vessel ∷ [])) l₃ → k₄ ≡ k₃ + bit (b .contradicted)
     → l₅ ≡ cond (b .miscounted) (stored l₄ (entrySize * k₄) (card ∷ column ∷ 5 ∷ vessel ∷ [])) l₄ → k₅ ≡ k₄ + bit (b .miscounted)
-    → (l₅ ≡ storedAll l₀ found (entriesFor b card column vessel)) × (k₅ ≡ found + length (entriesFor b card column vessel))
+    → l₆ ≡ cond m (stored l₅ (entrySize * k₅) (card ∷ column ∷ 6 ∷ vessel ∷ [])) l₅ → k₆ ≡ k₅ + bit m
+    → (l₆ ≡ storedAll l₀ found (entriesFor b m card column vessel)) × (k₆ ≡ found + length (entriesFor b m card column vessel))
 unfolding entriesFor storedAll
-five-kinds b card column vessel found l₀ l₁ l₂ l₃ l₄ l₅ k₁ k₂ k₃ k₄ k₅ p₁ q₁ p₂ q₂ p₃ q₃ p₄ q₄ p₅ q₅ =
-    let a = kind-more (b .miscounted) _ [] l₄ l₅ k₄ k₅ p₅ q₅ in
+all-kinds b m card column vessel found l₀ l₁ l₂ l₃ l₄ l₅ l₆ k₁ k₂ k₃ k₄ k₅ k₆ p₁ q₁ p₂ q₂ p₃ q₃ p₄ q₄ p₅ q₅ p₆ q₆ =
+    let z = kind-more m _ [] l₅ l₆ k₅ k₆ p₆ q₆ in
+    let a = kind-more (b .miscounted) _ _ l₄ l₅ k₄ k₅ p₅ q₅ in
     let d = kind-more (b .contradicted) _ _ l₃ l₄ k₃ k₄ p₄ q₄ in
     let e = kind-more (b .ambiguous) _ _ l₂ l₃ k₂ k₃ p₃ q₃ in
     let f = kind-more (b .redefined) _ _ l₁ l₂ k₁ k₂ p₂ q₂ in
     let g = kind-more (b .undefined) _ _ l₀ l₁ found k₁ p₁ q₁ in
-    (a .0 ∙ d .0 ∙ e .0 ∙ f .0 ∙ g .0, sym (add-zero k₅) ∙ a .1 ∙ d .1 ∙ e .1 ∙ f .1 ∙ g .1)
+    (z .0 ∙ a .0 ∙ d .0 ∙ e .0 ∙ f .0 ∙ g .0, sym (add-zero k₆) ∙ z .1 ∙ a .1 ∙ d .1 ∙ e .1 ∙ f .1 ∙ g .1)
 
 -- storing does not change how long the list is
 length-stored : (l : List ℕ) (at : ℕ) (e : List ℕ) → length (stored l at e) ≡ length l

@@ -1,4 +1,4 @@
--- The list column by column, and only the columns that can carry a tie.
+-- The list column by column, and only the columns where a fault can stand.
 use Prim.Native.Nat.{ℕ, zero, suc, _+_, _*_, _/_, _%_, _≤_, _<_}
 use native.Mathlib.Numerals.{add-one}
 use native.Mathlib.Omega.{arith}
@@ -11,6 +11,8 @@ use lib.ListN.{length, getD, length-map}
 use Rattle.base_lists.specs.Parts.{keep, kept, upTo}
 use Rattle.base_lists.proofs.Keeping.{kept-same, out-of-kept, out-of-upTo}
 use Rattle.base_lists.proofs.Entries.{entries-more}
+use Rattle.format_layout.specs.declared.Field.{Field}
+use Rattle.format_layout.specs.Layouts.{fieldsOf}
 use Rattle.header_check.specs.forms.Cards.{cardAt, cardsIn, layoutOf}
 use Rattle.tie_rules.specs.Ties.{refers, defines}
 use Rattle.tie_rules.specs.Keys.{isNone, holdsKey}
@@ -19,7 +21,7 @@ use Rattle.tie_rules.proofs.columns.Defining.{Defining}
 use Rattle.tie_rules.proofs.columns.Tied.{Idle, idle, at-most-five}
 use Rattle.tie_check.proofs.gather.Slots.{kept-within}
 use Rattle.tie_rules.proofs.columns.Tied.{none-at-zero}
-use Rattle.tie_rules.specs.Faults.{kinds, redefined, brokenOn, broken, onCard, faults, entrySize, entryFor, entryOf, entries}
+use Rattle.tie_rules.specs.Faults.{kinds, redefined, misplaced, brokenOn, broken, onCard, faults, entrySize, entryFor, entryOf, entries}
 use Rattle.tie_check.proofs.judging.Defining.{not-undefined, not-ambiguous, not-contradicted, not-miscounted}
 use Rattle.tie_laws.proofs.Sites.{isSite, at-site}
 use Rattle.tie_laws.proofs.Complete.{listOf, entry-size}
@@ -27,7 +29,9 @@ use Rattle.tie_laws.proofs.CardByCard.{sitesOf, kept-runs, brokenSite, siteEntr
 use Rattle.tie_check.specs.packed.Stored.{joined, storedAll, Sized}
 use Rattle.base_lists.specs.Laid.{laid}
 use Rattle.tie_check.proofs.entries.Stored.{stored-laid}
-use Rattle.tie_check.specs.packed.Listed.{columnEntries, slotEntries, cardEntries, entriesTo}
+use Rattle.tie_check.specs.packed.Listed.{columnEntries, stepEntries, cardEntries, entriesTo}
+use Rattle.tie_check.specs.packed.Begins.{begins, walked, anyLeft}
+use Rattle.tie_check.proofs.begins.Columns.{none-zero, none-left, or-none, amid, apart-left, apart-tie, begins-kept, begins-few}
 
 flatMap-same : {A B : Type 0} (f g : A → List B) (l : List A) → ((a : A) → f a ≡ g a) → flatMap f l ≡ flatMap g l
 unfolding flatMap
@@ -80,8 +84,8 @@ flatMap-at g z (x ∷ l) (suc n) h =
     (λ i. ap (λ k. g (getD (x ∷ l) k 0)) (sym (add-one i))))
     ∙ sym (flatMap-shift (λ i. g (getD (x ∷ l) i 0)) n)
 
--- a column that cannot carry a tie has no fault
-module _ (h s : List ℕ) (column : ℕ) (e : canTie (layoutOf s) column ≡ false) where
+-- a column that cannot carry a tie and has no misplaced number has no fault
+module _ (h s : List ℕ) (column : ℕ) (e : canTie (layoutOf s) column ≡ false) (p : misplaced s column ≡ false) where
   idles : Idle s column
   idles = idle s column e
 
@@ -100,32 +104,55 @@ module _ (h s : List ℕ) (column : ℕ) (e : canTie (layoutOf s) column ≡ fal
     not-ambiguous h s column refers-none,
     not-contradicted h s column refers-none,
     not-miscounted h s column refers-none,
+    p,
   )
-      (go (eqb kind 1) (eqb kind 2) (eqb kind 3) (eqb kind 4) (eqb kind 5))
+      (go (eqb kind 1) (eqb kind 2) (eqb kind 3) (eqb kind 4) (eqb kind 5) (eqb kind 6))
     where
-      go : (t u v w x : Bool) → cond t false (cond u false (cond v false (cond w false (x && false)))) ≡ false
-      go true u v w x = refl
-      go false true v w x = refl
-      go false false true w x = refl
-      go false false false true x = refl
-      go false false false false true = refl
-      go false false false false false = refl
+      go : (t u v w x y : Bool) → cond t false (cond u false (cond v false (cond w false (cond x false (y && false))))) ≡ false
+      go true u v w x y = refl
+      go false true v w x y = refl
+      go false false true w x y = refl
+      go false false false true x y = refl
+      go false false false false true y = refl
+      go false false false false false true = refl
+      go false false false false false false = refl
 
 module _ (h : List ℕ) (c : ℕ) where
-  no-entries : (column : ℕ) → canTie (layoutOf (cardAt h c)) column ≡ false → columnEntries h c column ≡ []
+  abbrev k : ℕ
+  k = layoutOf (cardAt h c)
+
+  no-entries : (column : ℕ) → canTie k column ≡ false → misplaced (cardAt h c) column ≡ false → columnEntries h c column ≡ []
   unfolding columnEntries broken kept
-  no-entries column e =
+  no-entries column e p =
       ap (map (λ i. entryFor h c column (i + 1)))
-      (none (λ i. brokenOn h (cardAt h c) column (i + 1)) (λ i. none-broken h (cardAt h c) column e (i + 1)) (upTo kinds))
+      (none (λ i. brokenOn h (cardAt h c) column (i + 1)) (λ i. none-broken h (cardAt h c) column e p (i + 1)) (upTo kinds))
     where
       none : (p : ℕ → Bool) → ((i : ℕ) → p i ≡ false) → (l : List ℕ) → kept p l ≡ []
       none p f [] = refl
       none p f (x ∷ l) = rw (f x) (none p f l)
 
-  -- a slot without a column has no entries
-  pub no-slot : (slot : ℕ) → getD (tieColumns (layoutOf (cardAt h c))) slot 0 ≡ 0 → slotEntries h c slot ≡ []
-  unfolding slotEntries
-  no-slot slot e = rw e (no-entries 0 (none-at-zero (layoutOf (cardAt h c))))
+  none-nowhere : columnEntries h c 0 ≡ []
+  unfolding misplaced
+  none-nowhere = no-entries 0 (none-at-zero k) (none-zero k (cardAt h c))
+
+  -- a step without a column has no entries
+  pub no-step : (left : Bool) (i : ℕ) → getD (walked left k) i 0 ≡ 0 → stepEntries h c left i ≡ []
+  unfolding stepEntries
+  no-step left i e = rw e none-nowhere
+
+  -- the steps of a walk give the entries of all columns
+  pub all-steps : (left : Bool) → left ≡ anyLeft (cardAt h c) (fieldsOf k) → flatMap (stepEntries h c left) (upTo 81) ≡ cardEntries h c
+  unfolding stepEntries walked cardEntries misplaced tieColumns begins amid
+  all-steps true e =
+      let g = columnEntries h c in
+      sym (flatMap-at g none-nowhere (begins k) 81 (begins-few k))
+      ∙ ap (flatMap g) (sym (begins-kept k))
+      ∙ flatMap-kept g (amid (begins k))
+      (λ column q. no-entries column (apart-tie k column q) (apart-left (cardAt h c) (fieldsOf k) column (or-none (eqb 5 column) (amid (map (λ (f : Field). f .first) (fieldsOf k)) column) q .1))) (upTo 81)
+  all-steps false e =
+      let g = columnEntries h c in
+      sym (flatMap-at g none-nowhere (tieColumns k) 81 (omega (arith, at-most-five k)))
+      ∙ flatMap-kept g (canTie k) (λ column q. no-entries column q (none-left (cardAt h c) (fieldsOf k) (sym e) column)) (upTo 81)
 
   at-sites : kept (brokenSite h c) (sitesOf (layoutOf (cardAt h c))) ≡ kept (brokenSite h c) (upTo onCard)
   unfolding sitesOf broken
@@ -158,17 +185,13 @@ module _ (h : List ℕ) (c : ℕ) where
           rw (a, b)
 
   on-card : entriesOn h c ≡ cardEntries h c
-  unfolding entriesOn cardEntries slotEntries tieColumns
+  unfolding entriesOn cardEntries
   on-card =
-      let k = layoutOf (cardAt h c) in
       let g = columnEntries h c in
-      let z : g 0 ≡ [] = no-entries 0 (none-at-zero k) in
       ap (map (siteEntry h c)) (at-sites ∙ kept-runs (brokenSite h c) kinds 80)
       ∙ map-flatMap (siteEntry h c) (λ j. map (λ i. kinds * j + i) (kept (λ i. brokenSite h c (kinds * j + i)) (upTo kinds))) (upTo 80)
       ∙ flatMap-same _ (λ j. g (j + 1)) (upTo 80) in-column
-      ∙ sym (flatMap-shift g 80 ∙ rw z)
-      ∙ sym (flatMap-kept g (canTie k) no-entries (upTo 81))
-      ∙ flatMap-at g z (tieColumns k) 5 (at-most-five k)
+      ∙ sym (flatMap-shift g 80 ∙ rw none-nowhere)
 
 joined-map : (h l : List ℕ) → joined (map (entryOf h) l) ≡ flatMap (entryOf h) l
 unfolding joined flatMap
@@ -176,18 +199,18 @@ joined-map h [] = refl
 joined-map h (t ∷ l) = ap (λ r. entryOf h t ++ r) (joined-map h l)
 
 module _ (h : List ℕ) where
-  walked : listOf h ≡ entriesTo h (cardsIn h)
+  card-wise : listOf h ≡ entriesTo h (cardsIn h)
   unfolding entriesTo
-  walked = card-by-card h ∙ flatMap-same (entriesOn h) (cardEntries h) (upTo (cardsIn h)) (on-card h)
+  card-wise = card-by-card h ∙ flatMap-same (entriesOn h) (cardEntries h) (upTo (cardsIn h)) (on-card h)
 
   -- the entries of all cards are those of the faults
   pub all-entries : joined (entriesTo h (cardsIn h)) ≡ entries h
   unfolding entries
-  all-entries = ap joined (sym walked) ∙ joined-map h (faults h)
+  all-entries = ap joined (sym card-wise) ∙ joined-map h (faults h)
 
   -- there are as many as faults
   pub all-found : length (entriesTo h (cardsIn h)) ≡ length (faults h)
-  all-found = ap length (sym walked) ∙ length-map (faults h) (entryOf h)
+  all-found = ap length (sym card-wise) ∙ length-map (faults h) (entryOf h)
 
 sized : (h l : List ℕ) → Sized (map (entryOf h) l)
 sized h [] = tt
@@ -197,6 +220,6 @@ sized h (t ∷ l) = (entry-size h t, sized h l)
 pub all-laid : (h l : List ℕ) → storedAll l 0 (entriesTo h (cardsIn h)) ≡ laid entrySize l (entries h)
 unfolding entries
 all-laid h l =
-    ap (storedAll l 0) (sym (walked h))
+    ap (storedAll l 0) (sym (card-wise h))
     ∙ stored-laid (map (entryOf h) (faults h)) (sized h (faults h)) l
     ∙ ap (laid entrySize l) (joined-map h (faults h))

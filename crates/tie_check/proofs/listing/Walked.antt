@@ -1,22 +1,23 @@
--- One column more, one card more.
+-- One step more, one card more.
 use Prim.Native.Nat.{ℕ, zero, suc, _+_, _≤_, _<_}
 use native.Mathlib.Numerals.{add-one}
 use native.Mathlib.Decide.{decLt}
 use native.Mathlib.Omega.{arith}
 use mathlib.Core.Path.{_≡_, refl, sym, ap, _∙_}
-use mathlib.Core.List.{List, [], _∷_, _++_, flatMap, append-nil, List·Memᴰ, List·Memᴰ·head, List·Memᴰ·tail}
+use mathlib.Core.Bool.{Bool}
+use mathlib.Core.List.{List, [], _∷_, _++_, flatMap, append-nil}
 use lib.ListN.{length, getD, length-append}
-use Rattle.base_lists.specs.Parts.{kept, upTo}
-use Rattle.base_lists.proofs.Keeping.{out-of-kept, out-of-upTo}
+use Rattle.base_lists.specs.Parts.{upTo}
 use Rattle.base_lists.proofs.Entries.{entries-more}
+use Rattle.format_layout.specs.Layouts.{fieldsOf}
 use Rattle.header_check.specs.forms.Cards.{cardAt, cardsIn, layoutOf}
 use Rattle.header_check.specs.declared.Checked.the-variants.{Accepted}
 use Rattle.header_check.specs.Refusing.{refusalOf}
 use Rattle.header_laws.proofs.Accepted.{few-cards, printed}
-use Rattle.tie_rules.specs.Ties.{canTie, tieColumns}
 use Rattle.tie_rules.specs.Keys.{vesselOf}
-use Rattle.tie_rules.specs.packed.Rows.{tieRow, columnIn, vesselBy}
-use Rattle.tie_rules.proofs.keys.Table.{row-is, column-low, column-is, no-row}
+use Rattle.tie_rules.specs.Faults.{misplacedAmong, misplaced}
+use Rattle.tie_rules.specs.packed.Rows.{rowAt, columnIn, vesselBy}
+use Rattle.tie_rules.proofs.keys.Table.{column-told}
 use Rattle.tie_rules.proofs.key_laws.Told.{vessel-at}
 use Rattle.tie_check.specs.declared.entries.Broken.{Broken}
 use Rattle.tie_check.specs.declared.totals.Totals.{Totals}
@@ -25,7 +26,9 @@ use Rattle.tie_check.specs.packed.Totals.{totalsOf}
 use Rattle.tie_check.specs.packed.Kinds.{brokenFor}
 use Rattle.tie_check.specs.packed.Asked.{faultsBy}
 use Rattle.tie_check.specs.packed.Stored.{storedAll, entriesFor}
-use Rattle.tie_check.specs.packed.Listed.{slotEntries}
+use Rattle.tie_check.specs.packed.Listed.{stepEntries}
+use Rattle.tie_check.specs.packed.Begins.{walked}
+use Rattle.tie_check.proofs.begins.Columns.{walked-below}
 use Rattle.tie_check.proofs.judging.Judged.{judged}
 use Rattle.tie_check.proofs.listing.Columns.{of-column}
 use Rattle.tie_check.proofs.entries.Stored.{stored-append}
@@ -57,42 +60,34 @@ run-rest g m (suc n) l h = elim (decLt n m) [
       ∙ run-rest g m n (omega arith) (λ i a b. h i a (omega arith))
 ]
 
--- what a column gives
-module _ (h : List ℕ) (accepted : refusalOf h ≡ Accepted) (c : ℕ) (below : c < cardsIn h) (layout slot row : ℕ)
-    (is : layout ≡ layoutOf (cardAt h c)) (found : row ≡ tieRow layout (slot + 1)) where
+-- what a step gives
+module _ (h : List ℕ) (accepted : refusalOf h ≡ Accepted) (c : ℕ) (below : c < cardsIn h) (left : Bool) (layout i row : ℕ)
+    (is : layout ≡ layoutOf (cardAt h c)) (found : row ≡ rowAt layout (getD (walked left layout) i 0)) where
   abbrev at : ℕ
-  at = getD (tieColumns (layoutOf (cardAt h c))) slot 0
+  at = getD (walked left (layoutOf (cardAt h c))) i 0
 
-  row-there : row ≡ tieRow (layoutOf (cardAt h c)) (slot + 1)
-  row-there = found ∙ ap (λ k. tieRow k (slot + 1)) is
+  row-there : row ≡ rowAt (layoutOf (cardAt h c)) at
+  row-there = found ∙ ap (λ k. rowAt k (getD (walked left k) i 0)) is
 
   low : at < 256
-  low = column-low (layoutOf (cardAt h c)) slot row row-there
+  low = omega (arith, walked-below left (layoutOf (cardAt h c)) i)
 
-  pub slot-none : row ≡ 0 → at ≡ 0
-  slot-none z = no-row (layoutOf (cardAt h c)) slot row row-there z
+  pub step-column : columnIn row ≡ at
+  step-column = ap columnIn row-there ∙ column-told (layoutOf (cardAt h c)) at low
 
-  pub slot-column : columnIn row ≡ at
-  slot-column = column-is (layoutOf (cardAt h c)) slot row row-there
+  pub step-none : row ≡ 0 → at ≡ 0
+  unfolding columnIn
+  step-none z = sym step-column ∙ ap columnIn z
 
-  pub slot-gives : (s keys links : List ℕ) (totals : Totals) (vessel column : ℕ) (b : Broken) → s ≡ cardAt h c
+  pub step-gives : (s keys links : List ℕ) (totals : Totals) (vessel column : ℕ) (b : Broken) (m : Bool) → s ≡ cardAt h c
       → vessel ≡ vesselBy layout s → keys ≡ gathered h .keys → links ≡ gathered h .links → totals ≡ totalsOf h
-      → column ≡ columnIn row → b ≡ faultsBy keys links totals s vessel row → entriesFor b (c + 1) column vessel ≡ slotEntries h c slot
-  unfolding slotEntries
-  slot-gives s keys links totals vessel column b card v p q r o w =
+      → column ≡ columnIn row → b ≡ faultsBy keys links totals s vessel row
+      → m ≡ misplacedAmong (fieldsOf layout) s (getD (walked left layout) i 0)
+      → entriesFor b m (c + 1) column vessel ≡ stepEntries h c left i
+  unfolding stepEntries misplaced
+  step-gives s keys links totals vessel column b m card v p q r o w x =
       let own : vessel ≡ vesselOf (cardAt h c) = v ∙ rw (card, is) (vessel-at (cardAt h c)) in
-      let same = row-is (layoutOf (cardAt h c)) slot row row-there in
-      let e : b ≡ brokenFor h (cardAt h c) at = w ∙ rw (p, q, r, card, own, same)
+      let e : b ≡ brokenFor h (cardAt h c) at = w ∙ rw (p, q, r, card, own, row-there)
       (judged h (few-cards h accepted) (printed h accepted) (cardAt h c) (printed h accepted c below) at low) in
-      rw (e, o ∙ slot-column, own) (of-column h c at)
-
-members-below : (l : List ℕ) (n i : ℕ) → 0 < n → ((x : ℕ) → List·Memᴰ x l → x < n) → getD l i 0 < n
-members-below [] n i z f = z
-members-below (x ∷ l) n zero z f = f x (List·Memᴰ·head refl)
-members-below (x ∷ l) n (suc i) z f = members-below l n i z (λ y m. f y (List·Memᴰ·tail m))
-
-pub column-below : (k slot : ℕ) → getD (tieColumns k) slot 0 < 81
-unfolding tieColumns
-column-below k slot =
-    members-below (kept (canTie k) (upTo 81)) 81 slot (omega arith)
-    (λ x m. out-of-upTo 81 x (out-of-kept (canTie k) (upTo 81) m .0))
+      let y : m ≡ misplaced (cardAt h c) at = x ∙ rw (card, is) in
+      rw (e, y, o ∙ step-column, own) (of-column h c at)

@@ -20,7 +20,8 @@ use Rattle.value_number.specs.number.Reading.{pointOf, figuresOf, heldOf, signO
 use Rattle.base_value.specs.declared.Value.the-variants.{Whole, Decimal}
 use Rattle.base_value.specs.declared.Reading.the-variants.{Held, OutOfRange}
 use Rattle.value_field.specs.declared.spelling.Spelling.the-variants as spelled
-use Rattle.value_field.specs.spelling.Reading.{wholeReading, readingOf}
+use Rattle.value_field.proofs.spelling.Standing.{stretch-le}
+use Rattle.value_field.specs.spelling.Reading.{numberIn, wholeReading, readingOf}
 use Rattle.header_check.specs.forms.Cards.{byteIn, layoutOf}
 use Rattle.tie_rules.specs.Offered.{isWhole, wholeFits, pairFits, textFits, borne}
 use Rattle.tie_rules.proofs.packing.Bits.{byte-printed, printable-take, printable-drop}
@@ -106,12 +107,13 @@ small-sign (b ∷ t) = go (eqb b 45) (eqb b 43)
     go false false = small-held (10 ^ suc (length t)) false (figuresOf false (b ∷ t)) (small-figures (b ∷ t))
 
 small-whole : (t : List ℕ) → Small (10 ^ length t) (wholeKey (readingOf spelled.Whole t))
-unfolding readingOf numberOf unpadded
+unfolding readingOf numberIn numberOf unpadded
 small-whole t =
-    small-larger (10 ^ length (drop (blanks t) t)) (10 ^ length t)
-    (pow-le-pow-right (omega arith) (omega (arith, length-drop (blanks t) t)))
-    (wholeKey (wholeReading (signOf false (drop (blanks t) t))))
-    (small-sign (drop (blanks t) t))
+    let u : List ℕ = textOf t in
+    small-larger (10 ^ length (drop (blanks u) u)) (10 ^ length t)
+    (pow-le-pow-right (omega arith) (omega (arith, length-drop (blanks u) u, stretch-le t)))
+    (wholeKey (wholeReading (signOf false (drop (blanks u) u))))
+    (small-sign (drop (blanks u) u))
 
 between-short : (first last : ℕ) (s : List ℕ) → length (between first last s) ≤ last - (first - 1)
 unfolding between

@@ -14,7 +14,8 @@ use Rattle.value_number.specs.packed.Shapes.{sized, sizeOf}
 use Rattle.base_value.specs.declared.Value.the-variants.{Absent, Whole, Decimal, Angle, Date, Text}
 use Rattle.base_value.specs.declared.Reading.{Reading}
 use Rattle.base_value.specs.declared.Reading.the-variants.{Held, Malformed, OutOfRange}
-use Rattle.value_field.specs.spelling.Reading.{wholeReading, readingOf}
+use Rattle.value_field.specs.spelling.Reading.{numberIn, wholeReading, readingOf}
+use Rattle.value_text.specs.text.Texts.{textOf}
 use Rattle.header_check.specs.forms.Cards.{byteIn}
 use Rattle.tie_rules.specs.Offered.{wholeOffered}
 use Rattle.tie_rules.specs.packed.Numbers.{packed}
@@ -95,10 +96,10 @@ module _ (size : ℕ) where
   a-mark Malformed e h = absurd (omega arith)
   a-mark OutOfRange e h = absurd (omega arith)
 
-pub whole-marked : (s : List ℕ) (first last : ℕ) (t : List ℕ) (r : ℕ) → t ≡ between first last s → r ≡ markOf (numberOf false t)
-    → r ≡ marked (wholeIn first last s)
-unfolding wholeIn readingOf markOf
-whole-marked s first last t r e h = h ∙ ap (λ x. markOf (numberOf false x)) e
+pub whole-marked : (s : List ℕ) (first last : ℕ) (t u : List ℕ) (r : ℕ) → t ≡ between first last s → u ≡ textOf t
+    → r ≡ markOf (numberOf false u) → r ≡ marked (wholeIn first last s)
+unfolding wholeIn readingOf numberIn markOf
+whole-marked s first last t u r e f h = h ∙ ap (λ x. markOf (numberOf false x)) (f ∙ ap textOf e)
 
 -- a mark tells the number
 pub mark-tells : (r : Reading) → wholeKey r ≡ unmarked (marked (wholeKey r))

@@ -19,7 +19,7 @@ use Rattle.tie_check.proofs.listing.list_cards.Tie as tie
 
 abbrev Inv-loop : tie.InvT-loop
 Inv-loop list₀ header layouts store links totals count found₀ place₀ list found place =
-    (place ≤ length header / 80) × (found ≤ 5 * kinds * place)
+    (place ≤ length header / 80) × (found ≤ 81 * kinds * place)
     × (list ≡ storedAll list₀ 0 (flatMap (cardEntries header) (upTo place)))
     × (found ≡ 0 + length (flatMap (cardEntries header) (upTo place)))
 

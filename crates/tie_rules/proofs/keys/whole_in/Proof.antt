@@ -8,6 +8,9 @@ use Rattle.tie_rules.proofs.keys.whole_in.Tie as tie
 columns-requires : tie.Need-columns-requires
 columns-requires c κs = search needs
 
+stretch-requires : tie.Need-stretch-requires
+stretch-requires c κs = search needs
+
 whole-size-requires : tie.Need-whole-size-requires
 whole-size-requires c κs = search needs
 
@@ -16,8 +19,10 @@ mark-by-requires c κs = search needs
 
 returns : tie.Need-returns
 returns c =
-    whole-marked (now (c .before .before .before .before .args .card)) _ _ _ _ (c .before .before .columns .ensures)
+    let t = c .before .before in
+    let s = t .before .before .before in
+    whole-marked (now (s .args .card)) _ _ (now (t .before .columns .result)) _ _ (t .before .columns .ensures) (t .stretch .ensures)
     (c .mark-by .ensures _ (c .before .whole-size .ensures .0))
 
 pub whole-in-spec : {M : Type 1} → statement M
-whole-in-spec = tie.close (tie.spec columns-requires whole-size-requires mark-by-requires returns)
+whole-in-spec = tie.close (tie.spec columns-requires stretch-requires whole-size-requires mark-by-requires returns)
