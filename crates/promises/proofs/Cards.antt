@@ -1,7 +1,7 @@
 -- The laws of one card, said of what putting answers and leaves.
 use Prim.Native.Nat.{ℕ}
 use mathlib.Core.Path.{_≡_, refl, sym, ap, _∙_}
-use mathlib.Core.Bool.{false}
+use mathlib.Core.Bool.{Bool, false}
 use mathlib.Core.Logic.{_↔_}
 use mathlib.Core.List.{List}
 use native.Mathlib.Decide.{ℕ-discrete}
@@ -59,24 +59,24 @@ pub blank-exactly : (k : Spelling) (s : List ℕ) → (readingOf k s ≡ Held Ab
 blank-exactly k s = (absent-only s k, λ e. ap (readingOf k) e ∙ blank-read (length s) k)
 
 module _ (s : List ℕ) (n form : ℕ) where
-  pub value-back : (v : Value) → putAnswer s n form v ≡ Done → fieldReading (putCard s n form v) n form ≡ read.Is v
+  pub value-back : (v : Value) → putAnswer s n form v ≡ Done → fieldReading (putCard s n form v) n form ≡ read.Is v false
   value-back v e = value-put-back s n form v (putCard s n form v) (done-placed (puttingOf s n form v) s e)
 
   pub text-back : (t : List ℕ) → textAnswer s n form t ≡ Done → fieldText (textCard s n form t) n form ≡ t
   text-back t e = text-put-back s n form t (textCard s n form t) (done-placed (puttingTextOf s n form t) s e)
 
-  pub read-again : (v : Value) → fieldReading s n form ≡ read.Is v → holdsText (judged.Is v) ≡ false
+  pub read-again : (v : Value) (b : Bool) → fieldReading s n form ≡ read.Is v b → holdsText (judged.Is v) ≡ false
       → (putAnswer s n form v ≡ Done)
-      × (fieldReading (putCard s n form v) n form ≡ read.Is v)
+      × (fieldReading (putCard s n form v) n form ≡ read.Is v false)
       × (putCard (putCard s n form v) n form v ≡ putCard s n form v)
-  read-again v e x =
+  read-again v b e x =
       let r = value-rewritten s n form v e x in
       let q : putCard s n form v ≡ r .card = ap (λ p. leftBy p s) (r .put) in
       (ap answerOf (r .put), rw q (r .says), rw q (ap (λ p. leftBy p (r .card)) (r .twice)))
 
-  pub text-again : (c : Columns) → fieldReading s n form ≡ read.Is (Text c)
+  pub text-again : (c : Columns) (b : Bool) → fieldReading s n form ≡ read.Is (Text c) b
       → (textAnswer s n form (fieldText s n form) ≡ Done) × (textCard s n form (fieldText s n form) ≡ s)
-  text-again c e = let r = text-rewritten s n form c e in (ap answerOf r, ap (λ p. leftBy p s) r)
+  text-again c b e = let r = text-rewritten s n form c e in (ap answerOf r, ap (λ p. leftBy p s) r)
 
 to-outside : (f : Field) (s t : List ℕ) → AlikeOutside f s t → Outside f s t
 to-outside f s t a = record { before = a .before; behind = a .behind; length-is = a .as-long }
@@ -85,16 +85,17 @@ of-outside : (f : Field) (s t : List ℕ) → Outside f s t → AlikeOutside f s
 of-outside f s t o = record { before = o .before; behind = o .behind; as-long = o .length-is }
 
 pub one-spelling : (s t : List ℕ) (n form k : ℕ) (f : Field) → soughtOf s n form ≡ sought.Is k f → AlikeOutside f s t
-    → (v : Value) → holdsText (judged.Is v) ≡ false → fieldReading s n form ≡ read.Is v → fieldReading t n form ≡ read.Is v
+    → (v : Value) (a b : Bool) → holdsText (judged.Is v) ≡ false → fieldReading s n form ≡ read.Is v a
+    → fieldReading t n form ≡ read.Is v b
     → putCard t n form v ≡ putCard s n form v
-one-spelling s t n form k f q a v x e d =
+one-spelling s t n form k f q a v b c x e d =
     let o = spelling.one-card s t n form k f q (to-outside f s t a) v x e d in
     ap (λ p. leftBy p t) (o .from-other) ∙ sym (ap (λ p. leftBy p s) (o .from-one))
 
 pub one-text : (s t : List ℕ) (n form k : ℕ) (f : Field) → soughtOf s n form ≡ sought.Is k f → AlikeOutside f s t
-    → (c d : Columns) → fieldReading s n form ≡ read.Is (Text c) → fieldReading t n form ≡ read.Is (Text d)
+    → (c d : Columns) (a b : Bool) → fieldReading s n form ≡ read.Is (Text c) a → fieldReading t n form ≡ read.Is (Text d) b
     → fieldText s n form ≡ fieldText t n form → s ≡ t
-one-text s t n form k f q a = spelling.one-text s t n form k f q (to-outside f s t a)
+one-text s t n form k f q o c d a b = spelling.one-text s t n form k f q (to-outside f s t o) c d
 
 module _ (s : List ℕ) (n form k : ℕ) (f : Field) (q : soughtOf s n form ≡ sought.Is k f) where
   pub outside : (v : Value) → AlikeOutside f s (putCard s n form v)

@@ -3,7 +3,7 @@
 -- believe the definitions that are named here, each in the specs/ of its crate, and nothing else.
 use Prim.Native.Nat.{ℕ, _+_, _*_, _/_, _≤_, _<_, min}
 use mathlib.Core.Path.{_≡_}
-use mathlib.Core.Bool.{true, false}
+use mathlib.Core.Bool.{Bool, true, false}
 use mathlib.Core.Logic.{_↔_}
 use mathlib.Core.List.{List, [], _∷_, _++_, map, List·Memᴰ}
 use lib.ListN.{length, getD, replicate}
@@ -18,6 +18,8 @@ use Rattle.value_field.specs.declared.spelling.Spelling.{Spelling}
 use Rattle.value_field.specs.spelling.Reading.{readingOf}
 use Rattle.format_layout.specs.declared.Field.{Field}
 use Rattle.format_layout.specs.declared.Form.{Form}
+use Rattle.format_layout.specs.declared.Found.the-variants as field-found
+use Rattle.format_layout.specs.Layouts.{fieldOf}
 use Rattle.card_field.specs.declared.seeking.Sought.the-variants as sought
 use Rattle.card_field.specs.seeking.Card.{soughtOf}
 use Rattle.card_field.specs.declared.FieldRead.the-variants as read
@@ -28,7 +30,7 @@ use Rattle.card_put.specs.declared.opening.Opened.the-variants as opened
 use Rattle.card_put.specs.Putting.{puttingOf, puttingTextOf}
 use Rattle.card_put.specs.opening.Opening.{openedOf, openedCard}
 use Rattle.card_check.specs.declared.Verdict.the-variants.{Fine, Offence}
-use Rattle.card_check.specs.Judging.{verdictOf}
+use Rattle.card_check.specs.Judging.{isCoordinate, verdictOf}
 use Rattle.card_laws.specs.exactly.Rows.{Exactly}
 use Rattle.card_laws.specs.exactly.Tables.{readRows, putRows, putTextRows, openRows, judgeRows, cardOf}
 use Rattle.card_laws.specs.rewriting.Edges.{edges, found}
@@ -57,6 +59,7 @@ use Rattle.card_laws.proofs.exactly.Entries as puts
 use Rattle.card_laws.proofs.exactly.Cards as whole-cards
 use Rattle.card_laws.proofs.rewriting.Edge as edge-cases
 use Rattle.tie_laws.proofs.Readings as readings
+use Rattle.tie_laws.proofs.Misplaced as misplaced
 use Rattle.tie_laws.proofs.Complete as complete
 use Rattle.tie_lookup.proofs.questions.Agreed as questions
 use Rattle.tie_laws.proofs.ExampleCards.{example}
@@ -67,7 +70,7 @@ use Rattle.crew_answer.proofs.Example as worked-example
 
 -- reading a field
 pub reading : (s : List ℕ) (n form : ℕ)
-    → Exactly (readRows s n form) (λ r. fieldReading s n form ≡ read.Refused r) ((v : Value) × (fieldReading s n form ≡ read.Is v))
+    → Exactly (readRows s n form) (λ r. fieldReading s n form ≡ read.Refused r) ((v : Value) × (b : Bool) × (fieldReading s n form ≡ read.Is v b))
 reading = fields.reading-exactly
 
 -- putting a value, and a text
@@ -120,10 +123,11 @@ blank = cards.blank-exactly
 pub at-the-edge : map found edges ≡ edges
 at-the-edge = edge-cases.edge
 
--- What is agreed to be written reads back the same.
+-- A reading says the value, and whether it is a number pushed left in its columns. What is agreed to be written reads back the same, and is
+-- never misplaced.
 
 pub value-back : (s : List ℕ) (n form : ℕ) (v : Value) → putAnswer s n form v ≡ entered.Done
-    → fieldReading (putCard s n form v) n form ≡ read.Is v
+    → fieldReading (putCard s n form v) n form ≡ read.Is v false
 value-back = cards.value-back
 
 pub text-back : (s : List ℕ) (n form : ℕ) (t : List ℕ) → textAnswer s n form t ≡ entered.Done
@@ -132,13 +136,14 @@ text-back = cards.text-back
 
 -- What was read can be put again: the card then says the same, and putting it once more changes nothing; a text leaves the card as it was.
 
-pub read-again : (s : List ℕ) (n form : ℕ) (v : Value) → fieldReading s n form ≡ read.Is v → holdsText (judged.Is v) ≡ false
+pub read-again : (s : List ℕ) (n form : ℕ) (v : Value) (b : Bool) → fieldReading s n form ≡ read.Is v b
+    → holdsText (judged.Is v) ≡ false
     → (putAnswer s n form v ≡ entered.Done)
-    × (fieldReading (putCard s n form v) n form ≡ read.Is v)
+    × (fieldReading (putCard s n form v) n form ≡ read.Is v false)
     × (putCard (putCard s n form v) n form v ≡ putCard s n form v)
 read-again = cards.read-again
 
-pub text-again : (s : List ℕ) (n form : ℕ) (c : Columns) → fieldReading s n form ≡ read.Is (Text c)
+pub text-again : (s : List ℕ) (n form : ℕ) (c : Columns) (b : Bool) → fieldReading s n form ≡ read.Is (Text c) b
     → (textAnswer s n form (fieldText s n form) ≡ entered.Done) × (textCard s n form (fieldText s n form) ≡ s)
 text-again = cards.text-again
 
@@ -146,12 +151,13 @@ text-again = cards.text-again
 -- one.
 
 pub one-spelling : (s t : List ℕ) (n form k : ℕ) (f : Field) → soughtOf s n form ≡ sought.Is k f → AlikeOutside f s t
-    → (v : Value) → holdsText (judged.Is v) ≡ false → fieldReading s n form ≡ read.Is v → fieldReading t n form ≡ read.Is v
+    → (v : Value) (a b : Bool) → holdsText (judged.Is v) ≡ false → fieldReading s n form ≡ read.Is v a
+    → fieldReading t n form ≡ read.Is v b
     → putCard t n form v ≡ putCard s n form v
 one-spelling = cards.one-spelling
 
 pub one-text : (s t : List ℕ) (n form k : ℕ) (f : Field) → soughtOf s n form ≡ sought.Is k f → AlikeOutside f s t
-    → (c d : Columns) → fieldReading s n form ≡ read.Is (Text c) → fieldReading t n form ≡ read.Is (Text d)
+    → (c d : Columns) (a b : Bool) → fieldReading s n form ≡ read.Is (Text c) a → fieldReading t n form ≡ read.Is (Text d) b
     → fieldText s n form ≡ fieldText t n form → s ≡ t
 one-text = cards.one-text
 
@@ -204,6 +210,13 @@ pub keys-are-read : (h : List ℕ) → refusalOf h ≡ Accepted → (c : ℕ) �
     → (r : Role) (column : ℕ)
     → keyAt r (cardAt h c) column ≡ keyRead (layoutOf (cardAt h c)) (lineFor r (layoutOf (cardAt h c)) column .source) (cardAt h c)
 keys-are-read = readings.key-is
+
+-- Kind 6 is what reading says too: at the first column of every field but a coordinate, exactly where its number is pushed left.
+
+pub misplaced-is-read : (h : List ℕ) → refusalOf h ≡ Accepted → (c : ℕ) → c < cardsIn h → layoutOf (cardAt h c) < unread
+    → (n : ℕ) (f : Field) → fieldOf (layoutOf (cardAt h c)) n ≡ field-found.Is f → isCoordinate (f .kind) ≡ false
+    → (v : Value) × (fieldReading (cardAt h c) n 0 ≡ read.Is v (broken h c (f .first) 6))
+misplaced-is-read = misplaced.misplaced-read
 
 -- Cards behind the opening block may change places: the header is accepted, the check answers the same number, and an entry stands in
 -- one list exactly if the entry with its card's new number, and else the same, stands in the other.
