@@ -1,8 +1,9 @@
-// A broken tie told to people: the card as it stands, a caret under the column, and one sentence in the crew's words.
+// A fault told to people: the card as it stands, a caret under the column, and one sentence in the crew's words.
 pub mod names;
 pub mod places;
 
 use crew_io::page;
+use format_layout::fields;
 use format_layout::names::H00X8;
 use header_check::forms;
 use tie_rules::keys;
@@ -275,6 +276,30 @@ fn push_miscounted(
     push_points(out, begun, keys, card)
 }
 
+// The last column of the field that begins in a column, 0 where none does.
+fn last_from(layout: usize, column: usize) -> usize {
+    let count = fields::fields_in(layout);
+    let mut n = 0;
+    while n < count {
+        n += 1;
+        let row = format_layout::row_of(layout, n);
+        if fields::first_of(row) == column {
+            return fields::last_of(row);
+        }
+    }
+    0
+}
+
+// Kind 6: the columns of the number, and where it should end.
+fn push_misplaced(out: &mut [u8], n: usize, layout: usize, column: usize, vessel: u32) -> usize {
+    let last = last_from(layout, column) as u64;
+    let words = b"The number in columns # to #";
+    let span = page::push_form(out, n, words, column as u64, last, 0);
+    let named = push_of_vessel(out, span, vessel);
+    let wanted = b" has blanks behind it. It should end in column #.";
+    page::push_form(out, named, wanted, last, 0, 0)
+}
+
 // Puts the sentence of a fault.
 fn push_sentence(
     out: &mut [u8],
@@ -305,6 +330,7 @@ fn push_sentence(
             push_apart(out, n, header, keys, key, text)
         }
         5 => push_miscounted(out, n, keys, text, layout, vessel),
+        6 => push_misplaced(out, n, layout, column, vessel),
         _ => n,
     }
 }

@@ -27,14 +27,7 @@ fn push_whole(out: &mut [u8], n: usize, first: usize, last: usize) -> usize {
     if first == last {
         return page::push_all(out, n, b"a digit.");
     }
-    page::push_form(
-        out,
-        n,
-        b"a whole number that ends in column #.",
-        last as u64,
-        0,
-        0,
-    )
+    page::push_all(out, n, b"a whole number.")
 }
 
 // Puts a coordinate: words for an angle, or for a number that ends before the last column.
@@ -68,16 +61,7 @@ fn push_wanted(
         Kind::Text => n,
         Kind::Comment => n,
         Kind::Whole => push_whole(out, n, first, last),
-        Kind::Decimal => {
-            page::push_form(
-                out,
-                n,
-                b"a number that ends in column #.",
-                last as u64,
-                0,
-                0,
-            )
-        }
+        Kind::Decimal => page::push_all(out, n, b"a number."),
         Kind::Date => page::push_all(out, n, b"a date of eight digits, YYYYMMDD."),
         Kind::Latitude => push_coordinate(
             out,

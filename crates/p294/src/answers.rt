@@ -11,7 +11,8 @@ use card_put::opening::Opened;
 use tie_check::Ties;
 use tie_lookup::questions::Defined;
 ghost use mathlib.Core.Path.{_≡_};
-ghost use Rattle.p294.specs.answers.Replies.{plain, refusedReply, doneReply, valueReply, fieldReply, textAlone, enteredReply, openedReply, countReply, onlyReply, tiesReply, keyReply};
+ghost use mathlib.Core.Bool.{false};
+ghost use Rattle.p294.specs.answers.Replies.{plain, refusedReply, doneReply, mark, valueReply, fieldReply, textAlone, enteredReply, openedReply, countReply, onlyReply, tiesReply, keyReply};
 
 // What the answer with a text says.
 const TEXT: i64 = 5;
@@ -60,7 +61,7 @@ fn refused(r: Refusal) -> Reply
 
 // A date.
 fn of_date(d: Date) -> Reply
-    ensures { λ r. ⌜ r ≡ valueReply (Value.Date d) ⌝ }
+    ensures { λ r. ⌜ r ≡ valueReply false (Value.Date d) ⌝ }
 {
     let year = d.year;
     let month = d.month;
@@ -75,7 +76,7 @@ fn of_date(d: Date) -> Reply
 
 // A text's columns.
 fn of_columns(c: Columns) -> Reply
-    ensures { λ r. ⌜ r ≡ valueReply (Value.Text c) ⌝ }
+    ensures { λ r. ⌜ r ≡ valueReply false (Value.Text c) ⌝ }
 {
     let first = c.first;
     let last = c.last;
@@ -87,9 +88,19 @@ fn of_columns(c: Columns) -> Reply
     }
 }
 
+// 1 for a number that is misplaced.
+fn mark_of(misplaced: bool) -> i64
+    ensures { λ r. ⌜ r ≡ mark misplaced ⌝ }
+{
+    if misplaced {
+        return 1;
+    }
+    0
+}
+
 // A decimal.
-fn of_decimal(d: Decimal) -> Reply
-    ensures { λ r. ⌜ r ≡ valueReply (Value.Decimal d) ⌝ }
+fn of_decimal(d: Decimal, misplaced: bool) -> Reply
+    ensures { λ r. ⌜ r ≡ valueReply misplaced (Value.Decimal d) ⌝ }
 {
     let units = d.units;
     let places = d.places;
@@ -97,13 +108,13 @@ fn of_decimal(d: Decimal) -> Reply
         said: 2,
         first: units,
         second: plain_of(places),
-        third: 0,
+        third: mark_of(misplaced),
     }
 }
 
 // A value.
-fn of_value(v: Value) -> Reply
-    ensures { λ r. ⌜ r ≡ valueReply v ⌝ }
+fn of_value(v: Value, misplaced: bool) -> Reply
+    ensures { λ r. ⌜ r ≡ valueReply misplaced v ⌝ }
 {
     match v {
         Value::Absent => done(),
@@ -111,9 +122,9 @@ fn of_value(v: Value) -> Reply
             said: 1,
             first: z,
             second: 0,
-            third: 0,
+            third: mark_of(misplaced),
         },
-        Value::Decimal(d) => of_decimal(d),
+        Value::Decimal(d) => of_decimal(d, misplaced),
         Value::Angle(z) => Reply {
             said: 3,
             first: z,
@@ -130,7 +141,7 @@ pub fn of_field(read: FieldRead) -> Reply
     ensures { λ r. ⌜ r ≡ fieldReply read ⌝ }
 {
     match read {
-        FieldRead::Is(v) => of_value(v),
+        FieldRead::Is(v, misplaced) => of_value(v, misplaced),
         FieldRead::Refused(r) => refused(r),
     }
 }

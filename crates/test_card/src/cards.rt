@@ -46,7 +46,7 @@ fn say_refusal(r: Refusal) {
 // Writes what was read.
 fn say_read(r: FieldRead) {
     match r {
-        FieldRead::Is(v) => values::say_value(v),
+        FieldRead::Is(v, misplaced) => values::say_placed(v, misplaced),
         FieldRead::Refused(why) => say_refusal(why),
     }
 }

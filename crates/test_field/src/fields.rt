@@ -63,7 +63,7 @@ fn read(field: &[u8], k: Spelling, text: bool) {
     if text {
         return say::columns(spelling::text_of(field, k));
     }
-    values::say_reading(spelling::read(field, k))
+    values::say_reading(spelling::read(field, k), spelling::is_misplaced(field, k))
 }
 
 // write K W value

@@ -152,7 +152,7 @@ fn say_text(c: Columns) {
 }
 
 // Writes a value.
-pub fn say_value(v: Value) {
+fn say_value(v: Value) {
     match v {
         Value::Absent => say::words(b"absent"),
         Value::Whole(z) => say_named(b"whole", z),
@@ -163,10 +163,18 @@ pub fn say_value(v: Value) {
     }
 }
 
+// Writes a value, and whether it is misplaced.
+pub fn say_placed(v: Value, misplaced: bool) {
+    say_value(v);
+    if misplaced {
+        say::words(b" misplaced")
+    }
+}
+
 // Writes what stands in a field, or the number of its refusal.
-pub fn say_reading(r: Reading) {
+pub fn say_reading(r: Reading, misplaced: bool) {
     match r {
-        Reading::Held(v) => say_value(v),
+        Reading::Held(v) => say_placed(v, misplaced),
         Reading::Malformed => say::number(9),
         Reading::OutOfRange => say::number(10),
     }

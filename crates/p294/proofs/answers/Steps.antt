@@ -45,10 +45,10 @@ refusal-not (suc n) = refl
 -- the answer to a field, but for a value of another kind, is the answer of its text
 pub text-alone : (f : FieldRead) → textAlone (fieldReply f) ≡ textReply f
 unfolding textAlone fieldReply valueReply refusedReply textReply
-text-alone (read.Is Absent) = refl
-text-alone (read.Is (Whole z)) = refl
-text-alone (read.Is (Decimal d)) = refl
-text-alone (read.Is (Angle z)) = refl
-text-alone (read.Is (Date d)) = refl
-text-alone (read.Is (Text c)) = refl
+text-alone (read.Is Absent m) = refl
+text-alone (read.Is (Whole z) m) = refl
+text-alone (read.Is (Decimal d) m) = refl
+text-alone (read.Is (Angle z) m) = refl
+text-alone (read.Is (Date d) m) = refl
+text-alone (read.Is (Text c) m) = refl
 text-alone (read.Refused x) = rw (refusal-not (capped (x .number)))

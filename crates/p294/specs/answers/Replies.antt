@@ -35,28 +35,33 @@ refusedReply r = reply (signedOf true (capped (r .number))) (plain (r .number)) 
 abbrev pub doneReply : Reply
 doneReply = reply (pos 0) (pos 0) (pos 0) (pos 0)
 
--- a value: 0 absent, 1 whole, 2 decimal with its places, 3 angle, 4 date, 5 text with its columns on the card
-unfoldable pub valueReply : Value → Reply
-valueReply Absent = doneReply
-valueReply (Whole z) = reply (pos 1) z (pos 0) (pos 0)
-valueReply (Decimal d) = reply (pos 2) (d .units) (plain (d .places)) (pos 0)
-valueReply (Angle z) = reply (pos 3) z (pos 0) (pos 0)
-valueReply (Date d) = reply (pos 4) (plain (d .year)) (plain (d .month)) (plain (d .day))
-valueReply (Text c) = reply (pos 5) (plain (c .first)) (plain (c .last)) (pos 0)
+-- 1 for a number that is misplaced
+abbrev pub mark : Bool → ℤ
+mark misplaced = cond misplaced (pos 1) (pos 0)
+
+-- a value: 0 absent, 1 whole, 2 decimal with its places, 3 angle, 4 date, 5 text with its columns on the card; the third number
+-- of a whole or a decimal says whether it is misplaced
+unfoldable pub valueReply : Bool → Value → Reply
+valueReply misplaced Absent = doneReply
+valueReply misplaced (Whole z) = reply (pos 1) z (pos 0) (mark misplaced)
+valueReply misplaced (Decimal d) = reply (pos 2) (d .units) (plain (d .places)) (mark misplaced)
+valueReply misplaced (Angle z) = reply (pos 3) z (pos 0) (pos 0)
+valueReply misplaced (Date d) = reply (pos 4) (plain (d .year)) (plain (d .month)) (plain (d .day))
+valueReply misplaced (Text c) = reply (pos 5) (plain (c .first)) (plain (c .last)) (pos 0)
 
 -- a field: its value, or its refusal
 unfoldable pub fieldReply : FieldRead → Reply
-fieldReply (read.Is v) = valueReply v
+fieldReply (read.Is v misplaced) = valueReply misplaced v
 fieldReply (read.Refused r) = refusedReply r
 
 -- a text: 5 and its columns; 0 where the field has none; or the field's refusal
 unfoldable pub textReply : FieldRead → Reply
-textReply (read.Is Absent) = doneReply
-textReply (read.Is (Whole z)) = doneReply
-textReply (read.Is (Decimal d)) = doneReply
-textReply (read.Is (Angle z)) = doneReply
-textReply (read.Is (Date d)) = doneReply
-textReply (read.Is (Text c)) = valueReply (Text c)
+textReply (read.Is Absent m) = doneReply
+textReply (read.Is (Whole z) m) = doneReply
+textReply (read.Is (Decimal d) m) = doneReply
+textReply (read.Is (Angle z) m) = doneReply
+textReply (read.Is (Date d) m) = doneReply
+textReply (read.Is (Text c) m) = valueReply m (Text c)
 textReply (read.Refused r) = refusedReply r
 
 -- an answer that says the kind of a value which is there and no text

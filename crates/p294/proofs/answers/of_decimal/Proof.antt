@@ -10,10 +10,15 @@ use Rattle.p294.proofs.answers.of_decimal.Tie as tie
 plain-of-requires : tie.Need-plain-of-requires
 plain-of-requires c κs = search needs
 
--- src/lib.rt:89:1
+mark-of-requires : tie.Need-mark-of-requires
+mark-of-requires c κs = search needs
+
 returns : tie.Need-returns
 unfolding valueReply
-returns c = alike refl (back _ _ (record { sfits = c .before .struct-told .given .0 .1 }) refl) (back _ _ (record { sfits = c .plain-of .ok }) (c .plain-of .ensures)) refl
+returns c =
+    let p = c .before in
+    alike refl (back _ _ (record { sfits = p .before .struct-told .given .0 .1 }) refl)
+    (back _ _ (record { sfits = p .plain-of .ok }) (p .plain-of .ensures)) (back _ _ (record { sfits = c .mark-of .ok }) (c .mark-of .ensures))
 
 pub of-decimal-spec : {M : Type 1} → statement M
-of-decimal-spec = tie.close (tie.spec plain-of-requires returns)
+of-decimal-spec = tie.close (tie.spec plain-of-requires mark-of-requires returns)

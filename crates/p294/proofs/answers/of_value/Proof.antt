@@ -18,6 +18,9 @@ done-requires c κs = search needs
 enum-known-v : tie.Need-enum-known-v
 enum-known-v c = search needs
 
+mark-of-requires : tie.Need-mark-of-requires
+mark-of-requires c κs = search needs
+
 -- src/lib.rt:114:24
 enum-known-v-2 : tie.Need-enum-known-v-2
 enum-known-v-2 c = search needs
@@ -49,29 +52,34 @@ of-columns-requires c κs = search needs
 -- src/lib.rt:103:1
 returns : tie.Need-returns
 unfolding valueReply
-returns c = c .done .ensures ∙ sym (ap valueReply (c .before .enum-told .given .1))
+returns c = c .done .ensures ∙ sym (ap (valueReply _) (c .before .enum-told .given .1))
 
 -- src/lib.rt:103:1
 returns-2 : tie.Need-returns-2
 unfolding valueReply
-returns-2 c = alike refl (back _ _ (record { sfits = c .known-told .given .0 .1 }) refl) refl refl ∙ sym (ap valueReply (c .before .v .given .1))
+returns-2 c =
+    let k = c .before in
+    alike refl (back _ _ (record { sfits = k .known-told .given .0 .1 }) refl) refl (back _ _ (record { sfits = c .mark-of .ok }) (c .mark-of .ensures))
+    ∙ sym (ap (valueReply _) (k .before .v .given .1))
 
 -- src/lib.rt:103:1
 returns-3 : tie.Need-returns-3
-returns-3 c = c .of-decimal .ensures ∙ sym (ap valueReply (c .before .before .v2 .given .1))
+returns-3 c = c .of-decimal .ensures ∙ sym (ap (valueReply _) (c .before .before .v2 .given .1))
 
 -- src/lib.rt:103:1
 returns-4 : tie.Need-returns-4
 unfolding valueReply
-returns-4 c = alike refl (back _ _ (record { sfits = c .known-told3 .given .0 .1 }) refl) refl refl ∙ sym (ap valueReply (c .before .v3 .given .1))
+returns-4 c = alike refl (back _ _ (record { sfits = c .known-told3 .given .0 .1 }) refl) refl refl ∙ sym (ap (valueReply _) (c .before .v3 .given .1))
 
 -- src/lib.rt:103:1
 returns-5 : tie.Need-returns-5
-returns-5 c = c .of-date .ensures ∙ sym (ap valueReply (c .before .before .v4 .given .1))
+unfolding valueReply
+returns-5 c = c .of-date .ensures ∙ sym (ap (valueReply _) (c .before .before .v4 .given .1))
 
 -- src/lib.rt:103:1
 returns-6 : tie.Need-returns-6
-returns-6 c = c .of-columns .ensures ∙ sym (ap valueReply (c .before .before .v5 .given .1))
+unfolding valueReply
+returns-6 c = c .of-columns .ensures ∙ sym (ap (valueReply _) (c .before .before .v5 .given .1))
 
 pub of-value-spec : {M : Type 1} → statement M
 of-value-spec =
@@ -80,6 +88,7 @@ of-value-spec =
     enum-told
     done-requires
     enum-known-v
+    mark-of-requires
     enum-known-v-2
     of-decimal-requires
     enum-known-v-3
