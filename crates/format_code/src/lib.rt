@@ -30,6 +30,8 @@ const H23: u64 = 0x48_32_33_00_00;
 
 const H2310: u64 = 0x48_32_33_31_30;
 
+const H50: u64 = 0x48_35_30_00_00;
+
 // A card's code: read by the layout with a number, passed, or unknown.
 pub enum Code {
     Read(usize),
@@ -84,6 +86,9 @@ fn fits_word(word: u64, head: u64, fourth: u8, fifth: u8) -> bool
 fn start_of(word: u64) -> usize
     ensures { λ r. ⌜ (r ≤ layoutCount) × ((s : List ℕ) → wordOf s ≡ word → placeIn codes s ≡ r + placeIn (drop r codes) s) ⌝ }
 {
+    if H50 <= word {
+        return 27;
+    }
     if H2310 <= word {
         return 24;
     }

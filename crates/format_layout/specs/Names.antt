@@ -48,3 +48,19 @@ H22X0 = 22
 
 abbrev pub H23X0 : ℕ
 H23X0 = 24
+
+-- nodes of the network, and observations between them
+abbrev pub H16X1 : ℕ
+H16X1 = 26
+
+abbrev pub H5000 : ℕ
+H5000 = 27
+
+abbrev pub H51X0 : ℕ
+H51X0 = 28
+
+abbrev pub H52XX : ℕ
+H52XX = 29
+
+abbrev pub H54XX : ℕ
+H54XX = 30

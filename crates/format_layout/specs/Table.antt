@@ -93,6 +93,25 @@ readTable =
     layout "H23@0" "" (text! 7 14 ∷ decimal 15 20 ∷ pairs 8 21) ∷
     -- how dynamic compass corrections were found
     layout "H2301" "" (whole 7 7 flag ∷ text 9 80 ∷ []) ∷
+    -- USBL transducer, a node
+    layout "H16@1" "" (
+    whole 7 7 (AtLeast 0) ∷ whole! 9 12 (AtLeast 1) ∷ decimal 14 20 ∷ decimal 22 28 ∷ decimal 30 35 ∷ decimal 37 41 ∷
+    decimal 43 47 ∷ decimal 49 53 ∷ decimal 55 61 ∷ decimal 63 69 ∷ whole 71 71 flag ∷ decimal 73 80 ∷ []) ∷
+    -- network node at a fixed place; its form may be blank
+    layout "H5000" "" (
+    whole! 7 10 (AtLeast 1) ∷ text 12 27 ∷ whole 29 29 flag ∷ latitude 31 42 ∷ longitude 44 55 ∷ decimal 57 63 ∷
+    whole 65 65 flag ∷ whole 67 67 (Between 0 5) ∷ []) ∷
+    -- network node on a vessel, a streamer or a float, H51@0 on paper: its digit is 0 for relay vessels and buoys
+    layout "H51#0" "" (
+    whole! 7 10 (AtLeast 1) ∷ text 12 27 ∷ whole 29 31 (AtLeast 0) ∷ decimal 33 39 ∷ decimal 41 47 ∷ decimal 49 55 ∷ []) ∷
+    -- observation, what it is and between which nodes
+    layout "H52##" "" (
+    whole! 7 10 (AtLeast 1) ∷ text 12 27 ∷ whole 29 32 (AtLeast 1) ∷ whole 34 37 (AtLeast 0) ∷ whole 39 42 (AtLeast 0) ∷
+    whole 44 45 (Between 0 11) ∷ whole 47 49 (AtLeast 1) ∷ text 51 80 ∷ []) ∷
+    -- observation, its parameters
+    layout "H54##" "" (
+    whole 7 10 (AtLeast 1) ∷ decimal 12 23 ∷ decimal 25 36 ∷ whole 38 38 flag ∷ whole 40 40 flag ∷ decimal 42 53 ∷
+    decimal 55 64 ∷ decimal 66 73 ∷ decimal 75 78 ∷ whole 80 80 (Between 0 4) ∷ []) ∷
     []
 
 -- the passed codes: every other H code that section 5 of the format prints, as printed there
@@ -121,7 +140,6 @@ passedTable =
     bytes "H1500" ∷
     bytes "H1501" ∷
     bytes "H16@0" ∷
-    bytes "H16@1" ∷
     bytes "H16@2" ∷
     bytes "H23@1" ∷
     bytes "H24@0" ∷
@@ -136,12 +154,8 @@ passedTable =
     bytes "H34@0" ∷
     bytes "H34@1" ∷
     bytes "H41@0" ∷
-    bytes "H5000" ∷
-    bytes "H51@0" ∷
-    bytes "H52##" ∷
     bytes "H5306" ∷
     bytes "H5307" ∷
-    bytes "H54##" ∷
     bytes "H5500" ∷
     bytes "H56@0" ∷
     bytes "H600#" ∷

@@ -8,3 +8,6 @@ pub const H00X9: usize = 9;
 pub const H0100: usize = 12;
 
 pub const H0101: usize = 13;
+
+// Network node at a fixed place.
+pub const H5000: usize = 27;

@@ -1,5 +1,5 @@
 // The layout table as the code holds it: a block a code, a line a field; a new code is one more block behind the last,
-// since layouts are known by their numbers. The check compares all of it with the specification, and nothing else counts its codes or fields. It stands in four pieces, since the
+// since layouts are known by their numbers. The check compares all of it with the specification, and nothing else counts its codes or fields. It stands in five pieces, since the
 // time to check one grows faster than its lines.
 // A `match` whose arms are constants becomes constant data; an array would be written out anew wherever it is used.
 ghost use Prim.Native.Nat.{_≤_};
@@ -277,6 +277,80 @@ fn rows_from_h2300(layout: usize, number: usize) -> u64
             0 => 0x48_32_33_30_31, // H2301
             1 => 0x2_000_001_000_1_0_07_07,
             2 => 0xa_0_09_50,
+            _ => 0,
+        },
+        _ => rows_from_h1601(layout, number),
+    }
+}
+
+// The rows from the layout of H16@1 on.
+fn rows_from_h1601(layout: usize, number: usize) -> u64
+    requires { ⌜ 26 ≤ layout ⌝ }
+    ensures { λ r. ⌜ r ≡ rowOf layout number ⌝ }
+{
+    match layout {
+        26 => match number {
+            0 => 0x48_31_36_40_31, // H16@1
+            1 => 0x1_000_000_000_1_0_07_07,
+            2 => 0x1_001_000_000_1_1_09_0c,
+            3 => 0x2_0_0e_14,
+            4 => 0x2_0_16_1c,
+            5 => 0x2_0_1e_23,
+            6 => 0x2_0_25_29,
+            7 => 0x2_0_2b_2f,
+            8 => 0x2_0_31_35,
+            9 => 0x2_0_37_3d,
+            10 => 0x2_0_3f_45,
+            11 => 0x2_000_001_000_1_0_47_47,
+            12 => 0x2_0_49_50,
+            _ => 0,
+        },
+        27 => match number {
+            0 => 0x48_35_30_30_30, // H5000
+            1 => 0x1_001_000_000_1_1_07_0a,
+            2 => 0xa_0_0c_1b,
+            3 => 0x2_000_001_000_1_0_1d_1d,
+            4 => 0xe_0_1f_2a,
+            5 => 0xf_0_2c_37,
+            6 => 0x2_0_39_3f,
+            7 => 0x2_000_001_000_1_0_41_41,
+            8 => 0x2_000_005_000_1_0_43_43,
+            _ => 0,
+        },
+        28 => match number {
+            0 => 0x48_35_31_23_30, // H51#0
+            1 => 0x1_001_000_000_1_1_07_0a,
+            2 => 0xa_0_0c_1b,
+            3 => 0x1_000_000_000_1_0_1d_1f,
+            4 => 0x2_0_21_27,
+            5 => 0x2_0_29_2f,
+            6 => 0x2_0_31_37,
+            _ => 0,
+        },
+        29 => match number {
+            0 => 0x48_35_32_23_23, // H52##
+            1 => 0x1_001_000_000_1_1_07_0a,
+            2 => 0xa_0_0c_1b,
+            3 => 0x1_001_000_000_1_0_1d_20,
+            4 => 0x1_000_000_000_1_0_22_25,
+            5 => 0x1_000_000_000_1_0_27_2a,
+            6 => 0x2_000_00b_000_1_0_2c_2d,
+            7 => 0x1_001_000_000_1_0_2f_31,
+            8 => 0xa_0_33_50,
+            _ => 0,
+        },
+        30 => match number {
+            0 => 0x48_35_34_23_23, // H54##
+            1 => 0x1_001_000_000_1_0_07_0a,
+            2 => 0x2_0_0c_17,
+            3 => 0x2_0_19_24,
+            4 => 0x2_000_001_000_1_0_26_26,
+            5 => 0x2_000_001_000_1_0_28_28,
+            6 => 0x2_0_2a_35,
+            7 => 0x2_0_37_40,
+            8 => 0x2_0_42_49,
+            9 => 0x2_0_4b_4e,
+            10 => 0x2_000_004_000_1_0_50_50,
             _ => 0,
         },
         _ => 0,

@@ -11,12 +11,13 @@ unfolding codes layouts passedCodes
 start-of-spec =
     tie.close
     (tie.spec
-    (λ c. (omega arith, from-word 24 310079861040 (omega arith) tt _ (c .if1 .taken)))
-    (λ c. (omega arith, from-word 23 310079848448 (omega arith) tt _ (c .if2 .taken)))
-    (λ c. (omega arith, from-word 22 310079782912 (omega arith) tt _ (c .if3 .taken)))
-    (λ c. (omega arith, from-word 18 310079717376 (omega arith) tt _ (c .if4 .taken)))
-    (λ c. (omega arith, from-word 16 310063333376 (omega arith) tt _ (c .if5 .taken)))
-    (λ c. (omega arith, from-word 13 310046175281 (omega arith) tt _ (c .if6 .taken)))
-    (λ c. (omega arith, from-word 12 310046162944 (omega arith) tt _ (c .if7 .taken)))
-    (λ c. (omega arith, from-comments _ (c .if8 .taken)))
+    (λ c. (omega arith, from-word 27 310129983488 (omega arith) tt _ (c .if1 .taken)))
+    (λ c. (omega arith, from-word 24 310079861040 (omega arith) tt _ (c .if2 .taken)))
+    (λ c. (omega arith, from-word 23 310079848448 (omega arith) tt _ (c .if3 .taken)))
+    (λ c. (omega arith, from-word 22 310079782912 (omega arith) tt _ (c .if4 .taken)))
+    (λ c. (omega arith, from-word 18 310079717376 (omega arith) tt _ (c .if5 .taken)))
+    (λ c. (omega arith, from-word 16 310063333376 (omega arith) tt _ (c .if6 .taken)))
+    (λ c. (omega arith, from-word 13 310046175281 (omega arith) tt _ (c .if7 .taken)))
+    (λ c. (omega arith, from-word 12 310046162944 (omega arith) tt _ (c .if8 .taken)))
+    (λ c. (omega arith, from-comments _ (c .if9 .taken)))
     (λ c. (omega arith, λ s e. omega arith)))

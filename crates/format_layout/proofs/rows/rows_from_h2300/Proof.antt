@@ -2,7 +2,8 @@
 use Rattle.format_layout.specs.Table.{layouts}
 use Rattle.format_layout.specs.Layouts.{layoutAt, fieldsOf}
 use Rattle.format_layout.specs.packed.Rows.{headOf, wordOf, rowOf}
-use Rattle.format_layout.proofs.Lines.{same-row, past-fields, above, past-rows}
+use Rattle.format_layout.proofs.Lines.{same-row, past-fields, above}
+use borrow.Author.Needs.{needs}
 use Rattle.format_layout.proofs.rows.rows_from_h2300.Statement.{statement}
 use Rattle.format_layout.proofs.rows.rows_from_h2300.Tie as tie
 
@@ -11,6 +12,7 @@ unfolding headOf wordOf rowOf fieldsOf layoutAt layouts
 rows-from-h2300-spec =
     tie.close
     (tie.spec
+    (λ c κs. above 23 3 _ (c .before .pre) (c .match .rest))
     (λ c. same-row 23 0 _ _ (c .before .match .keys1) (c .match2 .keys1))
     (λ c. same-row 23 1 _ _ (c .before .match .keys1) (c .match2 .keys2))
     (λ c. past-fields 23 _ _ (c .before .match .keys1) (c .match2 .rest))
@@ -38,4 +40,4 @@ rows-from-h2300-spec =
     (λ c. same-row 25 1 _ _ (c .before .match .keys3) (c .match4 .keys2))
     (λ c. same-row 25 2 _ _ (c .before .match .keys3) (c .match4 .keys3))
     (λ c. past-fields 25 _ _ (c .before .match .keys3) (c .match4 .rest))
-    (λ c. past-rows _ (c .before .args .number) (above 23 3 _ (c .before .pre) (c .match .rest))))
+    (λ c. search needs))
