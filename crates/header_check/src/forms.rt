@@ -7,6 +7,7 @@ use format_layout::names::H00X8;
 use format_layout::names::H00X9;
 use format_layout::names::H0100;
 use format_layout::names::H0101;
+use format_layout::names::H5000;
 ghost use mathlib.Core.Path.{_≡_};
 ghost use Prim.Native.Nat.{_+_, _<_};
 ghost use Rattle.header_check.specs.forms.Cards.{numberOf, cardsIn, layoutOf};
@@ -147,6 +148,9 @@ pub fn form_by(notes: &[u8; NOTES], layout: usize, card: &[u8]) -> Form
     }
     if layout == H0101 {
         return form_told(notes[0]);
+    }
+    if layout == H5000 {
+        return form_told(mark_of(base_lists::byte_at(card, 28)));
     }
     Form::Unknown
 }

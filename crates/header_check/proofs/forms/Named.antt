@@ -21,14 +21,14 @@ use Rattle.format_layout.specs.packed.Rows.{layoutCount}
 use Rattle.format_code.proofs.Places.{codes-count, code-is}
 use Rattle.format_code.proofs.Apart.{read-as, in-each}
 use Rattle.header_check.specs.forms.Cards.{numberOf, layoutOf}
-use Rattle.format_layout.specs.Names.{H00X8, H00X9, H0100, H0101}
+use Rattle.format_layout.specs.Names.{H00X8, H00X9, H0100, H0101, H5000}
 use Rattle.header_check.specs.packed.Notes.{noteCard}
 use Rattle.header_check.proofs.forms.Steps.{seen-other}
 
--- H0000 to H0007, H00@8 and H00@9, whose digit may be 0, and H0100 and H0101
-pub named : map (λ k. layoutAt k .code) (0 ∷ 1 ∷ 2 ∷ 3 ∷ 4 ∷ 5 ∷ 6 ∷ 7 ∷ H00X8 ∷ H00X9 ∷ H0100 ∷ H0101 ∷ [])
+-- H0000 to H0007, H00@8 and H00@9, whose digit may be 0, H0100 and H0101, and H5000
+pub named : map (λ k. layoutAt k .code) (0 ∷ 1 ∷ 2 ∷ 3 ∷ 4 ∷ 5 ∷ 6 ∷ 7 ∷ H00X8 ∷ H00X9 ∷ H0100 ∷ H0101 ∷ H5000 ∷ [])
     ≡ bytes "H0000" ∷ bytes "H0001" ∷ bytes "H0002" ∷ bytes "H0003" ∷ bytes "H0004" ∷ bytes "H0005" ∷ bytes "H0006"
-    ∷ bytes "H0007" ∷ bytes "H00#8" ∷ bytes "H00#9" ∷ bytes "H0100" ∷ bytes "H0101" ∷ []
+    ∷ bytes "H0007" ∷ bytes "H00#8" ∷ bytes "H00#9" ∷ bytes "H0100" ∷ bytes "H0101" ∷ bytes "H5000" ∷ []
 unfolding layoutAt layouts
 named = refl
 

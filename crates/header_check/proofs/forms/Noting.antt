@@ -169,6 +169,7 @@ module _ (h : List ℕ) where
   unfolding formBy formOf lineForm gridForm
   form-noted s l = rw (
     told-mark (byteIn s 32),
+    told-mark (byteIn s 29),
     line-noted (byteIn s 7) l (cardsIn h),
     grid-noted (cardsIn h),
     only-told (statesLine h (byteIn s 7)) (λ i. byteIn (cardAt h i) 32) (cardsIn h),

@@ -62,9 +62,14 @@ module _ (t s : List ℕ) (k : ℕ) where
   unfolding formBy
   grid-form l m q r e = rw (ne-eqb k 8 l, ne-eqb k 9 m, eq-eqb k 13 q) e
 
-  pub no-form : (k ≡ 8 → ⊥) → (k ≡ 9 → ⊥) → (k ≡ 13 → ⊥) → Unknown ≡ formBy t k s
+  pub node-form : (k ≡ 8 → ⊥) → (k ≡ 9 → ⊥) → (k ≡ 13 → ⊥) → k ≡ 27 → (b m : ℕ) → b ≡ getD s 28 0 → m ≡ mark b
+      → (r : Form) → r ≡ told m → r ≡ formBy t k s
+  unfolding formBy byteIn
+  node-form l m n q b d eb ed r e = rw (ne-eqb k 8 l, ne-eqb k 9 m, ne-eqb k 13 n, eq-eqb k 27 q, ← eb, ← ed) e
+
+  pub no-form : (k ≡ 8 → ⊥) → (k ≡ 9 → ⊥) → (k ≡ 13 → ⊥) → (k ≡ 27 → ⊥) → Unknown ≡ formBy t k s
   unfolding formBy
-  no-form l m n = rw (ne-eqb k 8 l, ne-eqb k 9 m, ne-eqb k 13 n)
+  no-form l m n o = rw (ne-eqb k 8 l, ne-eqb k 9 m, ne-eqb k 13 n, ne-eqb k 27 o)
 
 -- a card as a part of the header
 pub card-part : (h : List ℕ) (c : ℕ) → take (c * 80 + 80 - c * 80) (drop (c * 80) h) ≡ cardAt h c

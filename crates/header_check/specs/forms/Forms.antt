@@ -7,7 +7,7 @@ use Rattle.base_lists.specs.Count.{count, first}
 use Rattle.format_layout.specs.declared.Form.{Form}
 use Rattle.format_layout.specs.declared.Form.the-variants.{Angles, Grid, Unknown}
 use Rattle.header_check.specs.forms.Cards.{cardAt, cardsIn, byteIn, layoutOf}
-use Rattle.format_layout.specs.Names.{H00X8, H00X9, H0100, H0101}
+use Rattle.format_layout.specs.Names.{H00X8, H00X9, H0100, H0101, H5000}
 
 -- what the byte in a form column says: the character 0, the character 1, or nothing
 unfoldable pub formSaid : ℕ → Form
@@ -33,9 +33,11 @@ lineForm h v = onlyForm (statesLine h v) (λ c. byteIn (cardAt h c) 32) (cardsIn
 unfoldable pub gridForm : List ℕ → Form
 gridForm h = onlyForm (statesGrid h) (λ c. byteIn (cardAt h c) 21) (cardsIn h)
 
--- the form of a card: H00@8 by itself, H00@9 by its vessel in column 7, H0101 by the grid, no other has coordinates
+-- the form of a card: H00@8 and H5000 by themselves, H00@9 by its vessel in column 7, H0101 by the grid, no other has
+-- coordinates
 unfoldable pub formOf : List ℕ → List ℕ → Form
 formOf h s =
     cond (eqb (layoutOf s) H00X8) (formSaid (byteIn s 32))
     (cond (eqb (layoutOf s) H00X9) (lineForm h (byteIn s 7))
-    (cond (eqb (layoutOf s) H0101) (gridForm h) Unknown))
+    (cond (eqb (layoutOf s) H0101) (gridForm h)
+    (cond (eqb (layoutOf s) H5000) (formSaid (byteIn s 29)) Unknown)))

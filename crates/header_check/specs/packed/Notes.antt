@@ -8,7 +8,7 @@ use lib.ListN.{getD, set, replicate}
 use Rattle.format_layout.specs.declared.Form.{Form}
 use Rattle.format_layout.specs.declared.Form.the-variants.{Angles, Grid, Unknown}
 use Rattle.header_check.specs.forms.Cards.{cardAt, byteIn, layoutOf}
-use Rattle.format_layout.specs.Names.{H00X8, H00X9, H0100, H0101}
+use Rattle.format_layout.specs.Names.{H00X8, H00X9, H0100, H0101, H5000}
 
 -- one for the grid and one for each byte
 abbrev pub noteCount : ℕ
@@ -44,4 +44,5 @@ notesTo h (suc c) = noteCard (notesTo h c) (cardAt h c)
 unfoldable pub formBy : List ℕ → ℕ → List ℕ → Form
 formBy t k s =
     cond (eqb k H00X8) (told (mark (byteIn s 32)))
-    (cond (eqb k H00X9) (told (getD t (1 + byteIn s 7) 0)) (cond (eqb k H0101) (told (getD t 0 0)) Unknown))
+    (cond (eqb k H00X9) (told (getD t (1 + byteIn s 7) 0))
+    (cond (eqb k H0101) (told (getD t 0 0)) (cond (eqb k H5000) (told (mark (byteIn s 29))) Unknown)))

@@ -1,6 +1,6 @@
 -- `header_check::forms::form_by` meets its contract.
 use denote.Ref.{now}
-use Rattle.header_check.proofs.forms.Steps.{own-form, line-form, grid-form, no-form}
+use Rattle.header_check.proofs.forms.Steps.{own-form, line-form, grid-form, node-form, no-form}
 use borrow.Author.Needs.{needs}
 use Rattle.header_check.proofs.forms.form_by.Statement.{statement}
 use Rattle.header_check.proofs.forms.form_by.Tie as tie
@@ -59,11 +59,28 @@ returns-3 c =
     grid-form (now (c6 .args .notes)) (now (c6 .args .card)) _ (c4 .if1 .left) (c3 .if2 .left) (c2 .if3 .taken) _
     (c .form-told3 .ensures)
 
+byte-at-requires-3 : tie.Need-byte-at-requires-3
+byte-at-requires-3 c κs = search needs
+
+mark-of-requires-2 : tie.Need-mark-of-requires-2
+mark-of-requires-2 c κs = search needs
+
+form-told-requires-4 : tie.Need-form-told-requires-4
+form-told-requires-4 c κs = search needs
+
 returns-4 : tie.Need-returns-4
 returns-4 c =
     let c2 = c .before .before in
-    let c4 = c2 .before .before in
-    no-form (now (c4 .args .notes)) (now (c4 .args .card)) _ (c2 .if1 .left) (c .before .if2 .left) (c .if3 .left)
+    let c3 = c2 .before in
+    let c6 = c3 .before .before .before in
+    node-form (now (c6 .before .before .args .notes)) (now (c6 .before .before .args .card)) _ (c6 .if1 .left) (c3 .before .before .if2 .left)
+    (c3 .before .if3 .left) (c3 .if4 .taken) _ _ (c2 .byte-at3 .ensures) (c .before .mark-of2 .ensures) _ (c .form-told4 .ensures)
+
+returns-5 : tie.Need-returns-5
+returns-5 c =
+    let c3 = c .before .before .before in
+    let c5 = c3 .before .before in
+    no-form (now (c5 .args .notes)) (now (c5 .args .card)) _ (c3 .if1 .left) (c .before .before .if2 .left) (c .before .if3 .left) (c .if4 .left)
 
 pub form-by-spec : {M : Type 1} → statement M
 form-by-spec =
@@ -81,4 +98,8 @@ form-by-spec =
     element-copy-out-form-told-2
     form-told-requires-3
     returns-3
-    returns-4)
+    byte-at-requires-3
+    mark-of-requires-2
+    form-told-requires-4
+    returns-4
+    returns-5)
