@@ -1,6 +1,6 @@
 -- In an accepted header every key, and every vessel and count that a card states, is what reading its field answers.
 use Prim.Native.Nat.{ℕ, _<_}
-use mathlib.Core.Path.{_≡_, refl, sym, ap₂, _∙_}
+use mathlib.Core.Path.{_≡_, refl, sym, ap, ap₂, _∙_}
 use mathlib.Core.Bool.{Bool, true, false, cond, _&&_, false≢true}
 use mathlib.Core.List.{List, [], _∷_}
 use lib.Dec.{eqb}
@@ -21,8 +21,8 @@ use Rattle.header_check.specs.declared.Checked.the-variants.{Accepted}
 use Rattle.header_check.specs.forms.Cards.{cardAt, cardsIn, layoutOf, unread}
 use Rattle.header_check.specs.Refusing.{refusalOf}
 use Rattle.header_laws.proofs.Readings.{field-found, field-read}
-use Rattle.tie_rules.specs.Ties.{Source, digit, whole, serial, waypoint, only, nothing, Role, sameRole, Tie, ties, lineIn, lineFor, isFor}
-use Rattle.tie_rules.specs.Keys.{between, wholeIn, paired, keyIn, keyAt}
+use Rattle.tie_rules.specs.Ties.{Source, digit, whole, serial, waypoint, only, allotted, nothing, Role, sameRole, Tie, ties, lineIn, lineFor, isFor}
+use Rattle.tie_rules.specs.Keys.{between, wholeIn, paired, inPart, keyIn, keyAt}
 use Rattle.tie_rules.specs.Readings.{numberFrom, numberAt, wholeOf, wholeRead, keyRead}
 use Rattle.tie_rules.proofs.key_laws.Readings.{whole-read, text-read}
 use Rattle.tie_laws.proofs.Tests.{both}
@@ -62,6 +62,7 @@ in-named k column (whole first last) e = both (eqb column first) (named k (whole
 in-named k column (serial first last) e = both (eqb column first) (named k (serial first last)) .0 e .1
 in-named k column (waypoint first last) e = both (eqb column first) (named k (waypoint first last)) .0 e .1
 in-named k column only e = refl
+in-named k column (allotted first last least most) e = both (eqb column first) (named k (allotted first last least most)) .0 e .1
 in-named k column nothing e = refl
 
 -- the line for a role of a column of a layout names fields of that layout
@@ -123,6 +124,7 @@ module _ (h : List ℕ) (a : refusalOf h ≡ Accepted) (c : ℕ) (l : c < cardsI
       let w = both (stands isWhole 7 7 (fieldOf k (numberAt k 7))) (stands isWhole first last (fieldOf k (numberAt k first))) .0 e in
       ap₂ paired (whole-is 7 7 (w .0)) (whole-is first last (w .1))
   source-is only e = refl
+  source-is (allotted first last least most) e = ap (inPart least most) (whole-is first last e)
   source-is nothing e = refl
 
 -- a key in whatever role is what reading answers

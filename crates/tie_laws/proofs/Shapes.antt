@@ -15,8 +15,8 @@ use Rattle.value_text.specs.text.Texts.{textEnd, textOf}
 use Rattle.value_field.specs.declared.spelling.Spelling.the-variants as spelled
 use Rattle.value_field.specs.spelling.Reading.{readingOf}
 use Rattle.header_check.specs.forms.Cards.{cardAt, layoutOf}
-use Rattle.tie_rules.specs.Ties.{Source, digit, whole, serial, waypoint, only, nothing, Role, defines, Tie, classes, ties, isFor, lineIn, lineFor}
-use Rattle.tie_rules.specs.Keys.{isNone, between, wholeIn, paired, keyIn, classAt, keyAt, holdsKey, definesKey}
+use Rattle.tie_rules.specs.Ties.{Source, digit, whole, serial, waypoint, only, allotted, nothing, Role, defines, Tie, classes, ties, isFor, lineIn, lineFor}
+use Rattle.tie_rules.specs.Keys.{isNone, between, wholeIn, paired, inPart, keyIn, classAt, keyAt, holdsKey, definesKey}
 use Rattle.tie_rules.specs.Definitions.{definitionsOf}
 use Rattle.tie_laws.proofs.Tests.{both}
 use Rattle.tie_laws.proofs.Sites.{gives}
@@ -38,6 +38,7 @@ suits class (whole first last) = not (eqb class 4) && not (eqb class 7)
 suits class (serial first last) = eqb class 4 && leb (last - (first - 1)) 8
 suits class (waypoint first last) = not (eqb class 4) && eqb class 7
 suits class only = not (eqb class 4) && not (eqb class 7)
+suits class (allotted first last least most) = not (eqb class 4) && not (eqb class 7)
 suits class nothing = true
 
 abbrev suited : Tie → Bool
@@ -103,6 +104,17 @@ module _ (s : List ℕ) where
       (λ x. ap length (x .1))
       (whole-shape (readingOf spelled.Whole (between first last s)))
 
+  -- a key of a part of a range is one of the range
+  part-length : (least most : ℕ) (key : List ℕ) → (not (isNone key) ≡ true → length key ≡ 1)
+      → not (isNone (inPart least most key)) ≡ true → length (inPart least most key) ≡ 1
+  unfolding inPart isNone
+  part-length least most [] f e = absurd (false≢true e)
+  part-length least most (n ∷ ns) f e = go (leb least n && leb n most) e
+    where
+      go : (b : Bool) → not (isNone (cond b (n ∷ ns) [])) ≡ true → length (cond b (n ∷ ns) []) ≡ 1
+      go true q = f refl
+      go false q = absurd (false≢true q)
+
   text-length : (first last : ℕ) → length (textOf (between first last s)) ≤ last - (first - 1)
   unfolding textOf between
   text-length first last =
@@ -132,6 +144,8 @@ module _ (s : List ℕ) where
   source-fits class (waypoint first last) e h = two-fits class (length (paired (wholeIn 7 7 s) (wholeIn first last s))) e
       (paired-length (wholeIn 7 7 s) (wholeIn first last s) (whole-length 7 7) (whole-length first last) h)
   source-fits class only e h = one-fits class 1 e refl
+  source-fits class (allotted first last least most) e h = one-fits class (length (inPart least most (wholeIn first last s))) e
+      (part-length least most (wholeIn first last s) (whole-length first last) h)
   source-fits class nothing e h = absurd (false≢true h)
 
   given : (x : Source) → not (isNone (keyIn x s)) ≡ true → gives x ≡ true
@@ -141,6 +155,7 @@ module _ (s : List ℕ) where
   given (serial first last) e = refl
   given (waypoint first last) e = refl
   given only e = refl
+  given (allotted first last least most) e = refl
   given nothing e = absurd (false≢true e)
 
   -- a key that a column defines or refers to is one of its class
@@ -150,8 +165,8 @@ module _ (s : List ℕ) where
   key-fits r column h =
       let t : Tie = lineIn ties r (layoutOf s) column in
       let o = line-suited ties table-suited r (layoutOf s) column (given (t .source) h) in
-      let w = both (leb 1 (t .class) && leb (t .class) 9) (suits (t .class) (t .source)) .0 o in
-      both (leb 1 (t .class) && leb (t .class) 9) (lengthFits (t .class) (length (keyIn (t .source) s)))
+      let w = both (leb 1 (t .class) && leb (t .class) 10) (suits (t .class) (t .source)) .0 o in
+      both (leb 1 (t .class) && leb (t .class) 10) (lengthFits (t .class) (length (keyIn (t .source) s)))
       .1 (w .0, source-fits (t .class) (t .source) (w .1) h)
 
 fits-told : (s : List ℕ) (class : ℕ) (key : List ℕ) (column : ℕ) → definesKey s class key column ≡ true

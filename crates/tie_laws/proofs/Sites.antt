@@ -17,7 +17,7 @@ use Rattle.card_field.specs.needing.Needs.{columnsOf}
 use Rattle.card_field.specs.judging.Fields.{spellingOf, misplacedOn}
 use Rattle.card_check.proofs.Walked.{in-order}
 use Rattle.header_check.specs.forms.Cards.{cardAt, layoutOf}
-use Rattle.tie_rules.specs.Ties.{Source, digit, whole, serial, waypoint, only, nothing, Role, defines, refers, sameRole, Tie, ties, isFor, lineIn, lineFor, statesOwn, statesCount}
+use Rattle.tie_rules.specs.Ties.{Source, digit, whole, serial, waypoint, only, allotted, nothing, Role, defines, refers, sameRole, Tie, ties, isFor, lineIn, lineFor, statesOwn, statesCount}
 use Rattle.format_layout.specs.Names.{H00X8, H0100}
 use Rattle.tie_rules.specs.Keys.{isNone, keyIn, keyAt, holdsKey}
 use Rattle.tie_rules.specs.Faults.{undefined, redefined, ambiguous, contradicted, miscounted, misplacedAmong, misplaced, kinds, brokenOn, broken}
@@ -30,6 +30,7 @@ gives (whole first last) = true
 gives (serial first last) = true
 gives (waypoint first last) = true
 gives only = true
+gives (allotted first last least most) = true
 gives nothing = false
 
 -- the table has a line for a role of a column of a layout
@@ -76,6 +77,7 @@ needs-line r s column e = go (lineFor r (layoutOf s) column .source) e
     go (serial first last) e = refl
     go (waypoint first last) e = refl
     go only e = refl
+    go (allotted first last least most) e = refl
     go nothing e = absurd (false≢true e)
 
 module _ (h s : List ℕ) (column : ℕ) where

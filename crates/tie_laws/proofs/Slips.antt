@@ -18,7 +18,7 @@ use Rattle.value_field.specs.spelling.Reading.{numberIn, wholeReading, readingO
 use Rattle.format_layout.specs.Table.{layouts, passedCodes}
 use Rattle.format_code.specs.Codes.{byteFits, fitsAt, fits, codes, placeIn, codeAt, codeOf}
 use Rattle.header_check.specs.forms.Cards.{cardAt, cardsIn, byteIn, layoutOf}
-use Rattle.tie_rules.specs.Ties.{Source, digit, whole, serial, waypoint, only, nothing, Role, defines, refers, Tie, ties, isFor, lineIn, lineFor}
+use Rattle.tie_rules.specs.Ties.{Source, digit, whole, serial, waypoint, only, allotted, nothing, Role, defines, refers, Tie, ties, isFor, lineIn, lineFor}
 use Rattle.tie_rules.specs.Keys.{isNone, between, wholeKey, wholeIn, keyIn, classAt, keyAt, holdsKey, definesKey, vesselOf}
 use Rattle.tie_rules.specs.Definitions.{placeOf}
 use Rattle.tie_laws.proofs.Tests.{both}
@@ -35,6 +35,7 @@ behindFour (whole first last) = leb 5 first
 behindFour (serial first last) = leb 5 first
 behindFour (waypoint first last) = leb 5 first
 behindFour only = true
+behindFour (allotted first last least most) = leb 5 first
 behindFour nothing = true
 
 abbrev allBehind : List Tie → Bool
@@ -78,6 +79,7 @@ module _ (s : List ℕ) (b : ℕ) where
   same-key-in (serial first last) e = rw (same-between first last (leb-true 5 first e))
   same-key-in (waypoint first last) e = rw (same-whole 7 7 (omega arith), same-whole first last (leb-true 5 first e))
   same-key-in only e = refl
+  same-key-in (allotted first last least most) e = rw (same-whole first last (leb-true 5 first e))
   same-key-in nothing e = refl
 
   module _ (same-layout : layoutOf (withVessel s b) ≡ layoutOf s) where

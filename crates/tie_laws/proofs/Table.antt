@@ -2,7 +2,7 @@
 -- where a code has one.
 use Prim.Native.Nat.{ℕ}
 use mathlib.Core.Path.{_≡_, refl}
-use mathlib.Core.Bool.{Bool, true, false, _&&_, _||_}
+use mathlib.Core.Bool.{Bool, true, false, not, _&&_, _||_}
 use mathlib.Core.List.{List, [], _∷_, map}
 use lib.Dec.{eqb}
 use lib.ListN.{length, getD}
@@ -16,16 +16,18 @@ use Rattle.format_layout.specs.Table.{layouts, passedCodes}
 use Rattle.format_layout.specs.Layouts.{layoutAt, fieldsOf, fieldOf}
 use Rattle.format_code.specs.Codes.{byteFits, fitsAt, fits, codes, placeIn, codeAt, codeOf}
 use Rattle.header_check.specs.forms.Cards.{byteIn, layoutOf}
-use Rattle.tie_rules.specs.Ties.{Source, digit, whole, serial, waypoint, only, nothing, Tie, ties, lineIn, lineFor, hasVessel}
+use Rattle.tie_rules.specs.Ties.{Source, digit, whole, serial, waypoint, only, allotted, nothing, Tie, ties, lineIn, lineFor, hasVessel}
 use Rattle.tie_rules.specs.Keys.{vesselOf}
 use Rattle.tie_rules.specs.Readings.{numberFrom, numberAt}
-use Rattle.format_layout.specs.Names.{H00X8, H00X9, H0100, H0101, H011X, H0120, H17X0, H17X1, H21X0, H21X1, H21X2, H21X3, H22X0, H23X0}
+use Rattle.format_layout.specs.Names.{H00X8, H00X9, H0100, H0101, H011X, H0120, H17X0, H17X1, H21X0, H21X1, H21X2, H21X3, H22X0, H23X0, H16X1, H5000, H51X0, H52XX, H54XX}
 
 -- the names of the layouts are those of their codes, with X for @ or #
 pub names-of : map (λ k. layoutAt k .code) (
-    H00X8 ∷ H00X9 ∷ H0100 ∷ H0101 ∷ H011X ∷ H0120 ∷ H17X0 ∷ H17X1 ∷ H21X0 ∷ H21X1 ∷ H21X2 ∷ H21X3 ∷ H22X0 ∷ H23X0 ∷ []) ≡
+    H00X8 ∷ H00X9 ∷ H0100 ∷ H0101 ∷ H011X ∷ H0120 ∷ H17X0 ∷ H17X1 ∷ H21X0 ∷ H21X1 ∷ H21X2 ∷ H21X3 ∷ H22X0 ∷ H23X0 ∷
+    H16X1 ∷ H5000 ∷ H51X0 ∷ H52XX ∷ H54XX ∷ []) ≡
     bytes "H00#8" ∷ bytes "H00#9" ∷ bytes "H0100" ∷ bytes "H0101" ∷ bytes "H011@" ∷ bytes "H0120" ∷ bytes "H17@0" ∷
-    bytes "H17@1" ∷ bytes "H21@0" ∷ bytes "H21@1" ∷ bytes "H21@2" ∷ bytes "H21@3" ∷ bytes "H22@0" ∷ bytes "H23@0" ∷ []
+    bytes "H17@1" ∷ bytes "H21@0" ∷ bytes "H21@1" ∷ bytes "H21@2" ∷ bytes "H21@3" ∷ bytes "H22@0" ∷ bytes "H23@0" ∷
+    bytes "H16@1" ∷ bytes "H5000" ∷ bytes "H51#0" ∷ bytes "H52##" ∷ bytes "H54##" ∷ []
 unfolding layouts layoutAt
 names-of = refl
 
@@ -38,8 +40,12 @@ every-line-found = refl
 abbrev isDigit : ℕ → Bool
 isDigit b = eqb b 64 || eqb b 35
 
+-- column 4 alone is left open; the two open digits of an observation are its type
+abbrev opensVessel : List ℕ → Bool
+opensVessel code = isDigit (getD code 3 0) && not (isDigit (getD code 4 0))
+
 -- the codes with a vessel digit are those with a digit for any vessel in column 4
-pub vessels-by-code : map hasVessel (upTo (length layouts)) ≡ map (λ (l : Layout). isDigit (getD (l .code) 3 0)) layouts
+pub vessels-by-code : map hasVessel (upTo (length layouts)) ≡ map (λ (l : Layout). opensVessel (l .code)) layouts
 unfolding layouts hasVessel upTo
 vessels-by-code = refl
 
@@ -82,6 +88,7 @@ named k (serial first last) = stands isText first last (fieldOf k (numberAt k fi
 named k (waypoint first last) =
     stands isWhole 7 7 (fieldOf k (numberAt k 7)) && stands isWhole first last (fieldOf k (numberAt k first))
 named k only = true
+named k (allotted first last least most) = stands isWhole first last (fieldOf k (numberAt k first))
 named k nothing = true
 
 -- a key of a layout that is listed at a column begins there; a code's digit is its fifth byte
@@ -91,6 +98,7 @@ isIn k column (whole first last) = eqb column first && named k (whole first last
 isIn k column (serial first last) = eqb column first && named k (serial first last)
 isIn k column (waypoint first last) = eqb column first && named k (waypoint first last)
 isIn k column only = true
+isIn k column (allotted first last least most) = eqb column first && named k (allotted first last least most)
 isIn k column nothing = false
 
 abbrev pub everyLine : List Tie → Bool

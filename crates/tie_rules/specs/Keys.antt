@@ -3,7 +3,7 @@
 use Prim.Native.Nat.{ℕ, _-_}
 use mathlib.Core.List.{List, [], _∷_, _++_}
 use mathlib.Core.Bool.{Bool, true, false, cond, _&&_, not}
-use lib.Dec.{eqb, ltb}
+use lib.Dec.{eqb, leb, ltb}
 use lib.IntN.{pos, negsuc}
 use lib.ListN.{take, drop}
 use Rattle.base_lists.specs.Parts.{alike}
@@ -14,7 +14,7 @@ use Rattle.base_value.specs.declared.Reading.the-variants.{Held, Malformed, Out
 use Rattle.value_field.specs.declared.spelling.Spelling.the-variants as spelled
 use Rattle.value_field.specs.spelling.Reading.{readingOf}
 use Rattle.header_check.specs.forms.Cards.{byteIn, layoutOf}
-use Rattle.tie_rules.specs.Ties.{Source, digit, whole, serial, waypoint, only, nothing, Role, defines, lineFor, hasVessel}
+use Rattle.tie_rules.specs.Ties.{Source, digit, whole, serial, waypoint, only, allotted, nothing, Role, defines, lineFor, hasVessel}
 
 -- there is no key
 unfoldable pub isNone : List ℕ → Bool
@@ -45,6 +45,11 @@ wholeIn first last s = wholeKey (readingOf spelled.Whole (between first last s))
 unfoldable pub paired : List ℕ → List ℕ → List ℕ
 paired a b = cond (isNone a) [] (cond (isNone b) [] (a ++ b))
 
+-- a number where it is one from a least to a greatest
+unfoldable pub inPart : ℕ → ℕ → List ℕ → List ℕ
+inPart least most [] = []
+inPart least most (n ∷ ns) = cond (leb least n && leb n most) (n ∷ ns) []
+
 -- the key that stands on a card
 unfoldable pub keyIn : Source → List ℕ → List ℕ
 keyIn digit s = (byteIn s 5 - 48) ∷ []
@@ -52,6 +57,7 @@ keyIn (whole first last) s = wholeIn first last s
 keyIn (serial first last) s = textOf (between first last s)
 keyIn (waypoint first last) s = paired (wholeIn 7 7 s) (wholeIn first last s)
 keyIn only s = 0 ∷ []
+keyIn (allotted first last least most) s = inPart least most (wholeIn first last s)
 keyIn nothing s = []
 
 -- what a column of a card does in a role: for which class, 0 for none, and with which key

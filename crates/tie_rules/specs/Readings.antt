@@ -11,8 +11,8 @@ use Rattle.card_field.specs.declared.FieldRead.{FieldRead}
 use Rattle.card_field.specs.declared.FieldRead.the-variants.{Is, Refused}
 use Rattle.card_field.specs.Reading.{fieldReading, fieldText}
 use Rattle.header_check.specs.forms.Cards.{byteIn}
-use Rattle.tie_rules.specs.Ties.{Source, digit, whole, serial, waypoint, only, nothing}
-use Rattle.tie_rules.specs.Keys.{paired}
+use Rattle.tie_rules.specs.Ties.{Source, digit, whole, serial, waypoint, only, allotted, nothing}
+use Rattle.tie_rules.specs.Keys.{paired, inPart}
 
 -- the number of the field that begins in a column, the first of the list having number n; 0 where none does
 unfoldable pub numberFrom : List Field → ℕ → ℕ → ℕ
@@ -45,4 +45,5 @@ keyRead k (whole first last) s = wholeRead k first s
 keyRead k (serial first last) s = fieldText s (numberAt k first) 0
 keyRead k (waypoint first last) s = paired (wholeRead k 7 s) (wholeRead k first s)
 keyRead k only s = 0 ∷ []
+keyRead k (allotted first last least most) s = inPart least most (wholeRead k first s)
 keyRead k nothing s = []

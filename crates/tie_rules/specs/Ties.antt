@@ -20,16 +20,23 @@ use Rattle.format_layout.specs.Names.{
   H21X3,
   H22X0,
   H23X0,
+  H16X1,
+  H5000,
+  H51X0,
+  H52XX,
+  H54XX,
 }
 
 -- where a key stands on a card: the last digit of the code; a whole number or a text in some columns; a whole number behind
--- the vessel in column 7; the one key 0, which stands nowhere; no key
+-- the vessel in column 7; the one key 0, which stands nowhere; a whole number in some columns, where it is one from a least to
+-- a greatest; no key
 pub data Source : Type 0 where
   digit : Source
   whole : ℕ → ℕ → Source
   serial : ℕ → ℕ → Source
   waypoint : ℕ → ℕ → Source
   only : Source
+  allotted : ℕ → ℕ → ℕ → ℕ → Source
   nothing : Source
 
 pub data Role : Type 0 where
@@ -58,7 +65,7 @@ refer k column class source = record { layout = k; column = column; role = refer
 
 -- how many classes there are
 abbrev pub classes : ℕ
-classes = 9
+classes = 10
 
 -- the table, class by class: what defines a key, and then what refers to it
 unfoldable pub ties : List Tie
@@ -67,8 +74,13 @@ ties =
     define H011X 5 1 digit ∷ refer H0120 7 1 (whole 7 7) ∷ refer H0120 9 1 (whole 9 9) ∷
     -- streamer number
     define H21X0 7 2 (whole 7 9) ∷ refer H21X1 7 2 (whole 7 9) ∷ refer H22X0 7 2 (whole 7 9) ∷
+    -- a node stands on a streamer where it names a number that is allotted to streamers
+    refer H51X0 29 2 (allotted 29 31 200 299) ∷
     -- node
-    define H22X0 11 3 (whole 11 14) ∷ define H22X0 36 3 (whole 36 39) ∷
+    define H22X0 11 3 (whole 11 14) ∷ define H22X0 36 3 (whole 36 39) ∷ define H5000 7 3 (whole 7 10) ∷
+    define H51X0 7 3 (whole 7 10) ∷ define H16X1 9 3 (whole 9 12) ∷
+    -- in the second and third place 0 is the ship's head and no node
+    refer H52XX 29 3 (whole 29 32) ∷ refer H52XX 34 3 (allotted 34 37 1 9999) ∷ refer H52XX 39 3 (allotted 39 42 1 9999) ∷
     -- compass serial
     define H22X0 16 4 (serial 16 23) ∷ define H22X0 41 4 (serial 41 48) ∷ refer H23X0 7 4 (serial 7 14) ∷
     -- motion sensor
@@ -81,6 +93,8 @@ ties =
     define H0101 7 8 (whole 7 10) ∷
     -- the variation grid
     define H0100 7 9 only ∷ refer H0101 7 9 only ∷
+    -- observation
+    define H52XX 7 10 (whole 7 10) ∷ refer H54XX 7 10 (whole 7 10) ∷
     []
 
 -- what stands in for a line that is not there; it finds no key
@@ -103,7 +117,7 @@ lineFor r k column = lineIn ties r k column
 unfoldable pub hasVessel : ℕ → Bool
 hasVessel k =
     eqb k H00X8 || eqb k H00X9 || eqb k H17X0 || eqb k H17X1 || eqb k H21X0 || eqb k H21X1 || eqb k H21X2 || eqb k H21X3 ||
-    eqb k H22X0 || eqb k H23X0
+    eqb k H22X0 || eqb k H23X0 || eqb k H16X1 || eqb k H51X0
 
 -- a line is about a column of a layout, in whichever role
 unfoldable pub about : List Tie → ℕ → ℕ → Bool

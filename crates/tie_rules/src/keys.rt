@@ -1,14 +1,15 @@
 // The keys on one card: what its columns define and what they refer to, each key as one number, by the rows of the table of ties.
 use crate::packing;
+use crate::rows;
 use value_number::shapes;
 use value_text::text;
 ghost use mathlib.Core.Path.{_≡_};
-ghost use Prim.Native.Nat.{_-_};
+ghost use Prim.Native.Nat.{_-_, _/_, _%_};
 ghost use Rattle.base_value.specs.declared.Reading.{Reading};
 ghost use Rattle.value_number.specs.packed.Shapes.{sizeOf};
 ghost use Rattle.header_check.specs.forms.Cards.{byteIn};
 ghost use Rattle.tie_rules.specs.Ties.{hasVessel};
-ghost use Rattle.tie_rules.specs.Keys.{between, wholeIn, paired};
+ghost use Rattle.tie_rules.specs.Keys.{between, wholeIn, paired, inPart};
 ghost use Rattle.tie_rules.specs.Offered.{wholeOffered};
 ghost use Rattle.tie_rules.specs.packed.Numbers.{packed};
 ghost use Rattle.tie_rules.specs.packed.Rows.{classIn, columnIn, definitionIn, referenceIn, ownIn, countedIn, onlyDefines, foundIn, vesselBy, marked, markOf};
@@ -38,8 +39,11 @@ const HOW: u64 = 0x1_00_00;
 
 const FIRST: u64 = 0x1_00;
 
-// How a key is found: it is the last digit of the code; a whole number or a text in some columns; a whole number behind the
-// vessel in column 7; the one key 0, which stands nowhere.
+// How a key is found: nowhere; it is the last digit of the code; a whole number or a text in some columns; a whole number behind the
+// vessel in column 7; the one key 0, which stands nowhere; from here on a whole number in some columns, where it is one of a part of
+// its range.
+const NOTHING: u64 = 0;
+
 const DIGIT: u64 = 1;
 
 const WHOLE: u64 = 2;
@@ -49,6 +53,11 @@ const SERIAL: u64 = 3;
 const WAYPOINT: u64 = 4;
 
 const ONLY: u64 = 5;
+
+const PART: u64 = 6;
+
+// The least number of a part stands above its greatest.
+const LEAST: u64 = 0x1_0000;
 
 // The column that a row is about.
 pub fn column_of(row: u64) -> usize
@@ -180,6 +189,20 @@ fn pair_key(card: &[u8], first: usize, last: usize) -> u64
     packing::packed_both(vessel - 1, number - 1)
 }
 
+// The whole number in some columns as a key, where it is one of a part of its range.
+fn part_key(card: &[u8], class: u64, first: usize, last: usize, part: u64) -> u64
+    ensures { λ r. ⌜ r ≡ packed class (wholeOffered class (inPart (part / 65536) (part % 65536) (wholeIn first last (now (card .entry))))) ⌝ }
+{
+    let number = whole_in(card, first, last);
+    if number <= part / LEAST {
+        return packing::NONE;
+    }
+    if part % LEAST < number - 1 {
+        return packing::NONE;
+    }
+    packing::packed_number(class, number - 1)
+}
+
 // The key that a line finds on a card.
 fn key_by(card: &[u8], line: u64) -> u64
     ensures { λ r. ⌜ r ≡ foundIn line (now (card .entry)) ⌝ }
@@ -187,13 +210,15 @@ fn key_by(card: &[u8], line: u64) -> u64
     let class = line / CLASS;
     let first = (line / FIRST % 256) as usize;
     let last = (line % 256) as usize;
-    match line / HOW % 16 {
+    let how = line / HOW % 16;
+    match how {
+        NOTHING => packing::NONE,
         DIGIT => packing::packed_number(class, digit_in(card, 5) as u64),
         WHOLE => number_key(card, class, first, last),
         SERIAL => packing::packed_columns(columns(card, first, last)),
         WAYPOINT => pair_key(card, first, last),
         ONLY => packing::packed_number(class, 0),
-        _ => packing::NONE,
+        _ => part_key(card, class, first, last, rows::part_of(how - PART)),
     }
 }
 

@@ -25,8 +25,10 @@ pub const POINTS: u64 = 8;
 
 pub const GRID: u64 = 9;
 
+pub const OBSERVATIONS: u64 = 10;
+
 // They are 1 to this.
-pub const CLASSES: u64 = 9;
+pub const CLASSES: u64 = 10;
 
 // The most columns of a card that can carry a tie.
 pub const SLOTS: usize = 5;

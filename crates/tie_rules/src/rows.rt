@@ -1,7 +1,7 @@
 // The table of ties as the code holds it: a block a layout, a line a column that can carry a tie; `tools/rows ties` prints it from
 // the specification's table, and the check compares the two.
 ghost use mathlib.Core.Path.{_≡_};
-ghost use Rattle.tie_rules.specs.packed.Rows.{tieRow};
+ghost use Rattle.tie_rules.specs.packed.Rows.{tieRow, partAt};
 
 // Row 0 is 1 where a layout's code has a vessel digit. Those behind it are a column each, from left to right, all hexadecimal, so
 // that a part is taken out as it is: what the column states (1 the card's own vessel, 2 a count), the line of its reference, the
@@ -100,6 +100,46 @@ pub fn tie_of(layout: usize, slot: usize) -> u64
             _ => 0,
         },
         25 => 0,
+        26 => match slot {
+            0 => 1, // H16@1
+            1 => 0x0_0_0_00_00_3_2_09_0c_09,
+            _ => 0,
+        },
+        27 => match slot {
+            0 => 0, // H5000
+            1 => 0x0_0_0_00_00_3_2_07_0a_07,
+            _ => 0,
+        },
+        28 => match slot {
+            0 => 1, // H51#0
+            1 => 0x0_0_0_00_00_3_2_07_0a_07,
+            2 => 0x0_2_7_1d_1f_0_0_00_00_1d,
+            _ => 0,
+        },
+        29 => match slot {
+            0 => 0, // H52##
+            1 => 0x0_0_0_00_00_a_2_07_0a_07,
+            2 => 0x0_3_2_1d_20_0_0_00_00_1d,
+            3 => 0x0_3_6_22_25_0_0_00_00_22,
+            4 => 0x0_3_6_27_2a_0_0_00_00_27,
+            _ => 0,
+        },
+        30 => match slot {
+            0 => 0, // H54##
+            1 => 0x0_a_2_07_0a_0_0_00_00_07,
+            _ => 0,
+        },
+        _ => 0,
+    }
+}
+
+// A part of a number's range in which it is a key: the least number and the greatest, in four hexadecimal digits each.
+pub fn part_of(number: u64) -> u64
+    ensures { λ r. ⌜ r ≡ partAt number ⌝ }
+{
+    match number {
+        0 => 0x0001_270f, // 1 to 9999
+        1 => 0x00c8_012b, // 200 to 299
         _ => 0,
     }
 }

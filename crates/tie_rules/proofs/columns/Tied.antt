@@ -14,14 +14,14 @@ use Rattle.base_lists.proofs.Keeping.{into-kept, into-upTo}
 use Rattle.base_lists.proofs.Rising.{rising-kept, rising-upTo, rising-order}
 use Rattle.header_check.specs.forms.Cards.{layoutOf}
 use Rattle.tie_rules.specs.Ties.{Role, Tie, ties, noTie, lineIn, lineFor, sameRole, hasVessel, about, statesCount, statesOwn, canTie, tieColumns}
-use Rattle.format_layout.specs.Names.{H00X8, H00X9, H0100, H17X0, H17X1, H21X0, H21X1, H21X2, H21X3, H22X0, H23X0}
+use Rattle.format_layout.specs.Names.{H00X8, H00X9, H0100, H17X0, H17X1, H21X0, H21X1, H21X2, H21X3, H22X0, H23X0, H16X1, H51X0}
 use Rattle.tie_rules.specs.Keys.{keyIn, classAt, keyAt}
 
--- the columns of the layouts 0 to 25
-pub all-columns : map tieColumns (upTo 26)
+-- the columns of the layouts 0 to 30
+pub all-columns : map tieColumns (upTo 31)
     ≡ [] ∷ [] ∷ [] ∷ [] ∷ [] ∷ [] ∷ [] ∷ [] ∷ (30 ∷ 79 ∷ []) ∷ (7 ∷ 9 ∷ 39 ∷ []) ∷ [] ∷ [] ∷ (7 ∷ 16 ∷ []) ∷ (7 ∷ []) ∷
     (5 ∷ []) ∷ (7 ∷ 9 ∷ []) ∷ (7 ∷ []) ∷ (7 ∷ []) ∷ (7 ∷ []) ∷ (7 ∷ []) ∷ [] ∷ [] ∷ (7 ∷ 11 ∷ 16 ∷ 36 ∷ 41 ∷ []) ∷ [] ∷
-    (7 ∷ []) ∷ [] ∷ []
+    (7 ∷ []) ∷ [] ∷ (9 ∷ []) ∷ (7 ∷ []) ∷ (7 ∷ 29 ∷ []) ∷ (7 ∷ 29 ∷ 34 ∷ 39 ∷ []) ∷ (7 ∷ []) ∷ []
 unfolding tieColumns kept upTo canTie about ties statesCount statesOwn
 all-columns = refl
 
@@ -49,13 +49,13 @@ every f [] = true
 every f (t ∷ ts) = f t && every f ts
 
 -- a number that no layout has
-module _ (k : ℕ) (high : 26 ≤ k) where
-  no-line : (column : ℕ) (ts : List Tie) → every (λ t. ltb (t .layout) 26) ts ≡ true → about ts k column ≡ false
+module _ (k : ℕ) (high : 31 ≤ k) where
+  no-line : (column : ℕ) (ts : List Tie) → every (λ t. ltb (t .layout) 31) ts ≡ true → about ts k column ≡ false
   unfolding about
   no-line column [] h = refl
   no-line column (t ∷ ts) h =
-      let low = ltb-true (t .layout) 26 (and-left (ltb (t .layout) 26) _ h) in
-      rw (ne-eqb (t .layout) k (λ e. omega (arith, low, e))) (no-line column ts (and-right (ltb (t .layout) 26) _ h))
+      let low = ltb-true (t .layout) 31 (and-left (ltb (t .layout) 31) _ h) in
+      rw (ne-eqb (t .layout) k (λ e. omega (arith, low, e))) (no-line column ts (and-right (ltb (t .layout) 31) _ h))
 
   none-can : (column : ℕ) → canTie k column ≡ false
   unfolding canTie ties statesCount statesOwn
@@ -84,12 +84,14 @@ module _ (k : ℕ) (high : 26 ≤ k) where
     ne-eqb k H21X3 (λ e. omega arith),
     ne-eqb k H22X0 (λ e. omega arith),
     ne-eqb k H23X0 (λ e. omega arith),
+    ne-eqb k H16X1 (λ e. omega arith),
+    ne-eqb k H51X0 (λ e. omega arith),
   )
 
 -- a test of the columns of each layout, and of none, is one of the columns of any
-pub of-columns : (f : List ℕ → Bool) → below (λ k. f (tieColumns k)) 26 ≡ true → f [] ≡ true → (k : ℕ) → f (tieColumns k) ≡ true
-of-columns f h none k = elim (decLt k 26) [
-  | yes l ↦ at-below (λ j. f (tieColumns j)) 26 h k l
+pub of-columns : (f : List ℕ → Bool) → below (λ k. f (tieColumns k)) 31 ≡ true → f [] ≡ true → (k : ℕ) → f (tieColumns k) ≡ true
+of-columns f h none k = elim (decLt k 31) [
+  | yes l ↦ at-below (λ j. f (tieColumns j)) 31 h k l
   | no l ↦ ap f (past-columns k (omega arith)) ∙ none
 ]
 

@@ -5,7 +5,7 @@ use native.Mathlib.Decide.{decLt}
 use native.Mathlib.Omega.{arith}
 use mathlib.Core.Path.{_≡_, refl, ap, ap₂, subst, _∙_}
 use mathlib.Core.List.{List, [], _∷_, _++_, append-nil}
-use mathlib.Core.Bool.{Bool, true, false, cond, _||_}
+use mathlib.Core.Bool.{Bool, true, false, cond, _&&_, _||_}
 use lib.Dec.{eqb, leb, ltb}
 use lib.ListN.{length, getD, drop, length-take, length-drop, List·getD-eq-default}
 use borrow.Author.Tests.{eq-eqb, ne-eqb, eqb-true, lt-ltb, le-leb, leb-true}
@@ -26,8 +26,8 @@ use Rattle.header_check.specs.forms.Cards.{byteIn, layoutOf}
 use Rattle.tie_rules.specs.Offered.{isWhole, wholeFits, pairFits, textFits, borne}
 use Rattle.tie_rules.proofs.packing.Bits.{byte-printed, printable-take, printable-drop}
 use Rattle.tie_rules.proofs.packing.Steps.{whole-class, end-of-text}
-use Rattle.tie_rules.specs.Ties.{Source, digit, whole, serial, waypoint, only, nothing, Role, ties, lineFor}
-use Rattle.tie_rules.specs.Keys.{isNone, between, wholeKey, wholeIn, paired, keyIn, classAt, keyAt}
+use Rattle.tie_rules.specs.Ties.{Source, digit, whole, serial, waypoint, only, allotted, nothing, Role, ties, lineFor}
+use Rattle.tie_rules.specs.Keys.{isNone, between, wholeKey, wholeIn, paired, inPart, keyIn, classAt, keyAt}
 use Rattle.tie_rules.proofs.keys.Table.{ofKind}
 use Rattle.tie_rules.specs.packed.Rows.{marked, unmarked}
 use Rattle.tie_rules.proofs.keys.Steps.{mark-tells}
@@ -154,6 +154,16 @@ whole-stands : (class first last : ℕ) (s : List ℕ) → isWhole class ≡ tru
 whole-stands class first last s w h =
     ap (stands class) (shape first last s) ∙ number-stands class w (marked (wholeIn first last s)) (small-mark first last 4 s h)
 
+-- no part of a range has a key that the range has not
+part-stands : (class least most : ℕ) (key : List ℕ) → stands class key ≡ true → stands class (inPart least most key) ≡ true
+unfolding inPart
+part-stands class least most [] h = h
+part-stands class least most (n ∷ ns) h = go (leb least n && leb n most)
+  where
+    go : (b : Bool) → stands class (cond b (n ∷ ns) []) ≡ true
+    go true = h
+    go false = none-stands class
+
 pair-stands : (m n : ℕ) → Small 10 (unmarked m) → Small 1000 (unmarked n) → stands 7 (paired (unmarked m) (unmarked n)) ≡ true
 unfolding stands isNone paired borne pairFits
 pair-stands zero n h l = refl
@@ -198,6 +208,7 @@ narrow (whole first last) = leb (last - (first - 1)) 4
 narrow (serial first last) = leb (last - (first - 1)) 8
 narrow (waypoint first last) = leb (last - (first - 1)) 3
 narrow only = true
+narrow (allotted first last least most) = leb (last - (first - 1)) 4
 narrow nothing = true
 
 source-stands : (class : ℕ) (src : Source) (s : List ℕ) → ofKind class src ≡ true → narrow src ≡ true → printable s ≡ true
@@ -210,6 +221,8 @@ source-stands class (serial first last) s k n p =
 source-stands class (waypoint first last) s k n p =
     rw (eqb-true class 7 k) (waypoint-stands first last s (leb-true (last - (first - 1)) 3 n))
 source-stands class only s k n p = number-stands class k 1 (omega arith)
+source-stands class (allotted first last least most) s k n p =
+    part-stands class least most (wholeIn first last s) (whole-stands class first last s k (leb-true (last - (first - 1)) 4 n))
 source-stands class nothing s k n p = none-stands class
 
 line-narrow : (r : Role) (k column : ℕ) → narrow (lineFor r k column .source) ≡ true

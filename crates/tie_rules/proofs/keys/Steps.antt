@@ -1,13 +1,14 @@
 -- What each way through the functions that read a card answers.
 use Prim.Native.Nat.{ℕ, suc, _+_, _-_, _/_, _%_, _≤_, _<_}
 use native.Mathlib.Omega.{arith}
+use native.Mathlib.Decide.{ℕ-discrete}
 use mathlib.Core.Path.{_≡_, refl, sym, ap, _∙_}
 use mathlib.Core.List.{List, [], _∷_}
 use mathlib.Core.Bool.{Bool, true, false}
 use lib.IntN.{ℤ, pos, negsuc}
 use lib.ListN.{length, getD, take, drop, drop-of-length-le, length-drop}
 use lib.Seq.{take-nil, take-all}
-use borrow.Author.Tests.{ne-eqb}
+use borrow.Author.Tests.{le-leb, lt-leb}
 use Rattle.base_digits.proofs.digits.Parts.{rest-part}
 use Rattle.value_number.specs.number.Reading.{numberOf}
 use Rattle.value_number.specs.packed.Shapes.{sized, sizeOf}
@@ -20,9 +21,10 @@ use Rattle.header_check.specs.forms.Cards.{byteIn}
 use Rattle.tie_rules.specs.Offered.{wholeOffered}
 use Rattle.tie_rules.specs.packed.Numbers.{packed}
 use Rattle.tie_rules.proofs.packing.Steps.{none-packed, offered-none}
-use Rattle.tie_rules.specs.Ties.{Source, digit, whole, serial, waypoint, only, nothing, hasVessel}
-use Rattle.tie_rules.specs.Keys.{isNone, between, wholeKey, wholeIn, paired}
-use Rattle.tie_rules.specs.packed.Rows.{classIn, sourceBy, sourceIn, foundBy, foundIn, vesselBy, marked, markOf, unmarked}
+use Rattle.tie_rules.specs.Ties.{Source, digit, whole, serial, waypoint, only, allotted, nothing, hasVessel}
+use Rattle.tie_rules.proofs.columns.Picked.{by-part}
+use Rattle.tie_rules.specs.Keys.{isNone, between, wholeKey, wholeIn, paired, inPart}
+use Rattle.tie_rules.specs.packed.Rows.{partAt, classIn, sourceBy, sourceIn, foundBy, foundIn, vesselBy, marked, markOf, unmarked}
 
 -- columns of a card, from being the one before the first
 module _ (s : List ℕ) (first last from : ℕ) (is : from ≡ first - 1) where
@@ -132,6 +134,27 @@ module _ (s : List ℕ) (first last m : ℕ) (is : m ≡ marked (wholeIn first l
       → n ≡ packed class (wholeOffered class (wholeIn first last s))
   a-number class n z h = rw (one-there z) h
 
+  -- and whether it is one of a part of its range
+  module _ (class least most : ℕ) where
+    abbrev offered : ℕ
+    offered = packed class (wholeOffered class (inPart least most (wholeIn first last s)))
+
+    pub before-part : m ≤ least → 0 ≡ offered
+    unfolding inPart
+    before-part l = elim (ℕ-discrete m 0) [
+      | yes z ↦ rw (none-there z) (sym (offered-none class))
+      | no z ↦ rw (one-there z, lt-leb least (m - 1) (omega arith)) (sym (offered-none class))
+    ]
+
+    pub behind-part : (m ≤ least → ⊥) → most < m - 1 → 0 ≡ offered
+    unfolding inPart
+    behind-part n l =
+        rw (one-there (λ z. n (omega arith)), le-leb least (m - 1) (omega arith), lt-leb (m - 1) most l) (sym (offered-none class))
+
+    pub in-part : (n : ℕ) → least < m → m - 1 ≤ most → n ≡ packed class (wholeOffered class ((m - 1) ∷ [])) → n ≡ offered
+    unfolding inPart
+    in-part n l k h = rw (one-there (λ z. omega arith), le-leb least (m - 1) (omega arith), le-leb (m - 1) most k) h
+
 -- a pair is there where both numbers are
 paired-none : (a : List ℕ) → paired a [] ≡ []
 unfolding paired isNone
@@ -174,9 +197,13 @@ module _ (line : ℕ) where
   unfolding sourceIn sourceBy
   is-only e = rw e
 
-  pub is-nothing : (how ≡ 1 → ⊥) → (how ≡ 2 → ⊥) → (how ≡ 3 → ⊥) → (how ≡ 4 → ⊥) → (how ≡ 5 → ⊥) → sourceIn line ≡ nothing
+  pub is-nothing : how ≡ 0 → sourceIn line ≡ nothing
   unfolding sourceIn sourceBy
-  is-nothing a b c d e = rw (ne-eqb how 1 a, ne-eqb how 2 b, ne-eqb how 3 c, ne-eqb how 4 d, ne-eqb how 5 e)
+  is-nothing e = rw e
+
+  pub is-part : 6 ≤ how → sourceIn line ≡ allotted (line / 256 % 256) (line % 256) (partAt (how - 6) / 65536) (partAt (how - 6) % 65536)
+  unfolding sourceIn
+  is-part l = by-part how (line / 256 % 256) (line % 256) l
 
 -- the key that a line finds, by where it stands
 module _ (line : ℕ) (s : List ℕ) where

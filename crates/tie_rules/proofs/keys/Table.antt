@@ -1,15 +1,15 @@
 -- The rows of the table of ties tell what stands in it.
-use Prim.Native.Nat.{ℕ, _+_, _/_, _%_, _<_}
+use Prim.Native.Nat.{ℕ, _+_, _-_, _/_, _%_, _≤_, _<_}
 use native.Mathlib.Omega.{arith}
 use native.Mathlib.Numerals.{add-one}
-use mathlib.Core.Path.{_≡_, refl, sym, ap, _∙_}
+use mathlib.Core.Path.{_≡_, refl, sym, ap, ap₂, _∙_}
 use mathlib.Core.List.{List, [], _∷_, map}
 use mathlib.Core.Bool.{Bool, true, false, cond, _&&_}
 use lib.Dec.{eqb, ltb}
 use lib.ListN.{getD, List·getD-map}
 use borrow.Author.Tests.{eqb-true, ltb-true}
 use Rattle.base_digits.proofs.digits.Bools.{and-left, and-right}
-use Rattle.base_lists.specs.Count.{bit}
+use Rattle.base_lists.specs.Count.{bit, firstFrom, first as place}
 use Rattle.header_check.specs.forms.Cards.{layoutOf}
 use Rattle.tie_rules.specs.Ties.{
   Source,
@@ -18,6 +18,7 @@ use Rattle.tie_rules.specs.Ties.{
   serial,
   waypoint,
   only,
+  allotted,
   nothing,
   Role,
   defines,
@@ -39,6 +40,9 @@ use Rattle.tie_rules.specs.Keys.{keyIn, keyAt}
 use Rattle.tie_rules.specs.Offered.{textClass, pairClass, isWhole}
 use Rattle.tie_rules.specs.packed.Numbers.{packed}
 use Rattle.tie_rules.specs.packed.Rows.{
+  parts,
+  partAt,
+  howOf,
   coded,
   codeOf,
   lineOf,
@@ -61,6 +65,7 @@ use Rattle.tie_rules.specs.packed.Rows.{
 use Rattle.tie_rules.proofs.packing.Steps.{none-packed, offered-whole}
 use Rattle.tie_rules.proofs.columns.Tied.{every, none-at-zero, no-line-in, or-left, or-right}
 use Rattle.tie_rules.proofs.columns.Slots.{slot-on-card}
+use Rattle.tie_rules.proofs.columns.Picked.{by-part}
 use Rattle.tie_rules.proofs.columns.Defining.{Defining}
 
 -- a rule of every line of the table, and of none, is one of the line that is found
@@ -86,6 +91,7 @@ ofKind class (whole first last) = isWhole class
 ofKind class (serial first last) = eqb class textClass
 ofKind class (waypoint first last) = eqb class pairClass
 ofKind class only = isWhole class
+ofKind class (allotted first last least most) = isWhole class
 ofKind class nothing = true
 
 -- each line's source fits its class
@@ -101,15 +107,20 @@ found-by class (whole first last) s w = ap (packed class) (offered-whole class w
 found-by class (serial first last) s w = rw (eqb-true class textClass w)
 found-by class (waypoint first last) s w = rw (eqb-true class pairClass w)
 found-by class only s w = ap (packed class) (offered-whole class w _)
+found-by class (allotted first last least most) s w = ap (packed class) (offered-whole class w _)
 found-by class nothing s w = sym (none-packed class)
 
--- the columns of a key that a line's number has room for
+-- the columns of a key that a line's number has room for, and the part of a range that it tells
 abbrev small : Source → Bool
 small digit = true
 small (whole first last) = ltb first 256 && ltb last 256
 small (serial first last) = ltb first 256 && ltb last 256
 small (waypoint first last) = ltb first 256 && ltb last 256
 small only = true
+small (allotted first last least most) =
+    ltb first 256 && ltb last 256 &&
+    (ltb (howOf least most) 16 &&
+    (eqb (partAt (howOf least most - 6) / 65536) least && eqb (partAt (howOf least most - 6) % 65536) most))
 small nothing = true
 
 -- a line's number tells its class and its source
@@ -124,6 +135,15 @@ module _ (class : ℕ) where
   class-told (waypoint first last) h =
       omega (arith, ltb-true first 256 (and-left _ _ h), ltb-true last 256 (and-right (ltb first 256) _ h))
   class-told only h = omega arith
+  class-told (allotted first last least most) h =
+      let k = and-left (ltb first 256 && ltb last 256) _ h in
+      let j = and-right (ltb first 256 && ltb last 256) _ h in
+      omega (
+        arith,
+        ltb-true first 256 (and-left _ _ k),
+        ltb-true last 256 (and-right (ltb first 256) _ k),
+        ltb-true (howOf least most) 16 (and-left _ _ j),
+      )
   class-told nothing h = omega arith
 
   by-parts : (how first last : ℕ) → how < 16 → (ltb first 256 && ltb last 256) ≡ true
@@ -138,6 +158,10 @@ module _ (class : ℕ) where
       let d : n % 256 ≡ last = omega arith in
       rw (a, b, d)
 
+  from-six : (least most : ℕ) → 6 ≤ howOf least most
+  unfolding howOf
+  from-six least most = omega arith
+
   source-told : (s : Source) → small s ≡ true → sourceIn (codeOf class s) ≡ s
   unfolding codeOf sourceBy
   source-told digit h = by-parts 1 0 0 (omega arith) refl
@@ -145,16 +169,25 @@ module _ (class : ℕ) where
   source-told (serial first last) h = by-parts 3 first last (omega arith) h
   source-told (waypoint first last) h = by-parts 4 first last (omega arith) h
   source-told only h = by-parts 5 0 0 (omega arith) refl
+  source-told (allotted first last least most) h =
+      let how = howOf least most in
+      let k = and-left (ltb first 256 && ltb last 256) _ h in
+      let j = and-right (ltb first 256 && ltb last 256) _ h in
+      let b = and-right (ltb how 16) _ j in
+      by-parts how first last (ltb-true how 16 (and-left _ _ j)) k
+      ∙ by-part how first last (from-six least most)
+      ∙ ap₂ (allotted first last) (eqb-true _ least (and-left _ _ b)) (eqb-true _ most (and-right (eqb (partAt (how - 6) / 65536) least) _ b))
   source-told nothing h = by-parts 0 0 0 (omega arith) refl
 
 -- a line that is all zeros finds nothing
 no-source : (class : ℕ) (s : Source) → codeOf class s ≡ 0 → s ≡ nothing
-unfolding codeOf
+unfolding codeOf howOf
 no-source class digit e = absurd (omega arith)
 no-source class (whole first last) e = absurd (omega arith)
 no-source class (serial first last) e = absurd (omega arith)
 no-source class (waypoint first last) e = absurd (omega arith)
 no-source class only e = absurd (omega arith)
+no-source class (allotted first last least most) e = absurd (omega arith)
 no-source class nothing e = refl
 
 module _ (r : Role) (k column : ℕ) where
@@ -162,7 +195,7 @@ module _ (r : Role) (k column : ℕ) where
   line = lineFor r k column
 
   line-small : (ltb (lineOf line) 16777216 && small (line .source)) ≡ true
-  unfolding ties lineOf codeOf
+  unfolding ties lineOf codeOf parts partAt howOf place firstFrom
   line-small = rule (λ t. ltb (lineOf t) 16777216 && small (t .source)) refl r k column refl
 
   pub line-below : lineOf line < 16777216

@@ -34,20 +34,20 @@ none-packed class = rw (none-borne class)
 -- what it is to be a class of whole numbers
 pub record WholeClass (class : ℕ) : Type 0 where
   pub some : 1 ≤ class
-  pub last : class ≤ 9
+  pub last : class ≤ 10
   pub no-text : class ≡ 4 → ⊥
   pub no-pair : class ≡ 7 → ⊥
 
 pub whole-class : (class : ℕ) → isWhole class ≡ true → WholeClass class
 unfolding isWhole
 whole-class class h =
-    let three = and-left (leb 1 class && leb class 9 && not (eqb class 4)) _ h in
-    let two = and-left (leb 1 class && leb class 9) _ three in
+    let three = and-left (leb 1 class && leb class 10 && not (eqb class 4)) _ h in
+    let two = and-left (leb 1 class && leb class 10) _ three in
     record {
       some = leb-true 1 class (and-left _ _ two);
-      last = leb-true class 9 (and-right (leb 1 class) _ two);
-      no-text = eqb-false class 4 (not-true _ (and-right (leb 1 class && leb class 9) _ three));
-      no-pair = eqb-false class 7 (not-true _ (and-right (leb 1 class && leb class 9 && not (eqb class 4)) _ h));
+      last = leb-true class 10 (and-right (leb 1 class) _ two);
+      no-text = eqb-false class 4 (not-true _ (and-right (leb 1 class && leb class 10) _ three));
+      no-pair = eqb-false class 7 (not-true _ (and-right (leb 1 class && leb class 10 && not (eqb class 4)) _ h));
     }
 
 pub other-kind : (class : ℕ) (key : List ℕ) → isWhole class ≡ false → 0 ≡ packed class (wholeOffered class key)

@@ -4,8 +4,8 @@ use Prim.Native.Nat.{ℕ, zero, suc, _+_, _*_, _-_, _/_, _%_}
 use mathlib.Core.List.{List, [], _∷_, map}
 use mathlib.Core.Bool.{Bool, cond}
 use lib.Dec.{eqb, ltb}
-use lib.ListN.{getD}
-use Rattle.base_lists.specs.Count.{bit}
+use lib.ListN.{length, getD}
+use Rattle.base_lists.specs.Count.{bit, first as place}
 use Rattle.base_value.specs.declared.Reading.{Reading}
 use Rattle.value_field.specs.spelling.Reading.{wholeReading}
 use Rattle.header_check.specs.forms.Cards.{byteIn}
@@ -17,6 +17,7 @@ use Rattle.tie_rules.specs.Ties.{
   serial,
   waypoint,
   only,
+  allotted,
   nothing,
   Role,
   defines,
@@ -28,9 +29,27 @@ use Rattle.tie_rules.specs.Ties.{
   statesCount,
   tieColumns,
 }
-use Rattle.tie_rules.specs.Keys.{between, wholeKey, wholeIn, paired, keyIn, noVessel}
+use Rattle.tie_rules.specs.Keys.{between, wholeKey, wholeIn, paired, inPart, keyIn, noVessel}
 use Rattle.tie_rules.specs.Offered.{textClass, pairClass, wholeOffered}
 use Rattle.tie_rules.specs.packed.Numbers.{packed}
+
+-- a part of a number's range as one number: its least and its greatest number, in four digits each
+abbrev pub partOf : ℕ → ℕ → ℕ
+partOf least most = least * 65536 + most
+
+-- the parts that the table names, numbered from 0
+unfoldable pub parts : List ℕ
+parts =
+    partOf 1 9999 ∷
+    partOf 200 299 ∷
+    []
+
+unfoldable pub partAt : ℕ → ℕ
+partAt n = getD parts n 0
+
+-- how a key of a part is found: from 6 on, a number each
+unfoldable pub howOf : ℕ → ℕ → ℕ
+howOf least most = 6 + place (λ n. eqb (partAt n) (partOf least most)) (length parts)
 
 -- a line as one number: its class, how the key is found, the key's first and last column, in one, one, two and two digits
 abbrev pub coded : ℕ → ℕ → ℕ → ℕ → ℕ
@@ -42,6 +61,7 @@ codeOf class (whole first last) = coded class 2 first last
 codeOf class (serial first last) = coded class 3 first last
 codeOf class (waypoint first last) = coded class 4 first last
 codeOf class only = coded class 5 0 0
+codeOf class (allotted first last least most) = coded class (howOf least most) first last
 codeOf class nothing = coded class 0 0 0
 
 unfoldable pub lineOf : Tie → ℕ
@@ -54,7 +74,8 @@ classIn line = line / 1048576
 unfoldable pub sourceBy : ℕ → ℕ → ℕ → Source
 sourceBy how first last =
     cond (eqb how 1) digit (cond (eqb how 2) (whole first last) (cond (eqb how 3) (serial first last)
-    (cond (eqb how 4) (waypoint first last) (cond (eqb how 5) only nothing))))
+    (cond (eqb how 4) (waypoint first last) (cond (eqb how 5) only
+    (cond (eqb how 0) nothing (allotted first last (partAt (how - 6) / 65536) (partAt (how - 6) % 65536)))))))
 
 unfoldable pub sourceIn : ℕ → Source
 sourceIn line = sourceBy (line / 65536 % 16) (line / 256 % 256) (line % 256)
@@ -100,6 +121,8 @@ foundBy class (whole first last) s = packed class (wholeOffered class (wholeIn f
 foundBy class (serial first last) s = packed textClass (textOf (between first last s))
 foundBy class (waypoint first last) s = packed pairClass (paired (wholeIn 7 7 s) (wholeIn first last s))
 foundBy class only s = packed class (wholeOffered class (0 ∷ []))
+foundBy class (allotted first last least most) s =
+    packed class (wholeOffered class (inPart least most (wholeIn first last s)))
 foundBy class nothing s = 0
 
 -- the key that a line finds

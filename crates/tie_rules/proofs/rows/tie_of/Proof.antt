@@ -1,16 +1,17 @@
 -- `tie_rules::tie_of` meets its contract: each line is a row of the table, by a computation.
 use mathlib.Core.Path.{refl}
 use Rattle.base_lists.specs.Parts.{kept, upTo}
+use Rattle.base_lists.specs.Count.{firstFrom, first as place}
 use Rattle.format_layout.proofs.Lines.{above}
 use Rattle.tie_rules.specs.Ties.{ties, lineIn, lineFor, hasVessel, about, statesOwn, statesCount, canTie, tieColumns}
-use Rattle.tie_rules.specs.packed.Rows.{codeOf, lineOf, statedBy, rowAt, tieRow}
+use Rattle.tie_rules.specs.packed.Rows.{parts, partAt, howOf, codeOf, lineOf, statedBy, rowAt, tieRow}
 use Rattle.tie_rules.proofs.columns.Picked.{same-tie, past-ties, no-ties, past-layouts}
 use native.Mathlib.Omega.{arith}
 use Rattle.tie_rules.proofs.rows.tie_of.Statement.{statement}
 use Rattle.tie_rules.proofs.rows.tie_of.Tie as tie
 
 pub tie-of-spec : {M : Type 1} → statement M
-unfolding tieRow rowAt statedBy lineOf codeOf lineFor lineIn ties tieColumns kept upTo canTie about statesCount statesOwn hasVessel
+unfolding tieRow rowAt statedBy lineOf codeOf howOf partAt parts place firstFrom lineFor lineIn ties tieColumns kept upTo canTie about statesCount statesOwn hasVessel
 tie-of-spec =
     tie.close
     (tie.spec
@@ -75,4 +76,23 @@ tie-of-spec =
     (λ c. same-tie 24 1 _ _ (c .before .match .keys25) (c .match15 .keys2))
     (λ c. past-ties 24 _ _ (c .before .match .keys25) (c .match15 .rest))
     (λ c. no-ties 25 _ (c .before .args .slot) (c .match .keys26) refl refl)
-    (λ c. past-layouts _ (c .before .args .slot) (above 0 26 _ (omega arith) (c .match .rest))))
+    (λ c. same-tie 26 0 _ _ (c .before .match .keys27) (c .match16 .keys1))
+    (λ c. same-tie 26 1 _ _ (c .before .match .keys27) (c .match16 .keys2))
+    (λ c. past-ties 26 _ _ (c .before .match .keys27) (c .match16 .rest))
+    (λ c. same-tie 27 0 _ _ (c .before .match .keys28) (c .match17 .keys1))
+    (λ c. same-tie 27 1 _ _ (c .before .match .keys28) (c .match17 .keys2))
+    (λ c. past-ties 27 _ _ (c .before .match .keys28) (c .match17 .rest))
+    (λ c. same-tie 28 0 _ _ (c .before .match .keys29) (c .match18 .keys1))
+    (λ c. same-tie 28 1 _ _ (c .before .match .keys29) (c .match18 .keys2))
+    (λ c. same-tie 28 2 _ _ (c .before .match .keys29) (c .match18 .keys3))
+    (λ c. past-ties 28 _ _ (c .before .match .keys29) (c .match18 .rest))
+    (λ c. same-tie 29 0 _ _ (c .before .match .keys30) (c .match19 .keys1))
+    (λ c. same-tie 29 1 _ _ (c .before .match .keys30) (c .match19 .keys2))
+    (λ c. same-tie 29 2 _ _ (c .before .match .keys30) (c .match19 .keys3))
+    (λ c. same-tie 29 3 _ _ (c .before .match .keys30) (c .match19 .keys4))
+    (λ c. same-tie 29 4 _ _ (c .before .match .keys30) (c .match19 .keys5))
+    (λ c. past-ties 29 _ _ (c .before .match .keys30) (c .match19 .rest))
+    (λ c. same-tie 30 0 _ _ (c .before .match .keys31) (c .match20 .keys1))
+    (λ c. same-tie 30 1 _ _ (c .before .match .keys31) (c .match20 .keys2))
+    (λ c. past-ties 30 _ _ (c .before .match .keys31) (c .match20 .rest))
+    (λ c. past-layouts _ (c .before .args .slot) (above 0 31 _ (omega arith) (c .match .rest))))
