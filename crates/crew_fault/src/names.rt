@@ -4,6 +4,7 @@ use header_check::forms::UNREAD;
 use tie_rules::DATUMS;
 use tie_rules::GRID;
 use tie_rules::NODES;
+use tie_rules::OBSERVATIONS;
 use tie_rules::POINTS;
 use tie_rules::SENSORS;
 use tie_rules::SERIALS;
@@ -54,6 +55,7 @@ pub fn push_thing(out: &mut [u8], n: usize, key: u64) -> usize {
         }
         POINTS => page::push_form(out, n, b"Variation point #", value, 0, 0),
         GRID => page::push_all(out, n, b"The variation grid"),
+        OBSERVATIONS => page::push_form(out, n, b"Observation #", value, 0, 0),
         _ => n,
     }
 }
@@ -70,13 +72,17 @@ fn defines(layout: usize, class: u64) -> bool {
     false
 }
 
-// Puts a byte of a code; where the code leaves it open, the datum that it is, or @ for the digit of a vessel.
+// Puts a byte of a code; where the code leaves it open, the datum that it is, # for a digit of an observation's type, or @ for the
+// digit of a vessel.
 fn push_open(out: &mut [u8], n: usize, byte: u8, key: u64) -> usize {
     if (byte != b'@') & (byte != b'#') {
         return page::push(out, n, byte);
     }
     if key / ROOM == DATUMS {
         return page::push_number(out, n, key % ROOM);
+    }
+    if key / ROOM == OBSERVATIONS {
+        return page::push(out, n, b'#');
     }
     page::push(out, n, b'@')
 }
@@ -91,16 +97,36 @@ fn push_pattern(out: &mut [u8], n: usize, layout: usize, key: u64) -> usize {
     push_open(out, d, (word % 256) as u8, key)
 }
 
+// Whether cards of a layout behind one define keys of a class.
+fn defined_behind(layout: usize, class: u64) -> bool {
+    let mut next = layout;
+    while next < UNREAD {
+        next += 1;
+        if defines(next, class) {
+            return true;
+        }
+    }
+    false
+}
+
+// Puts what stands before a code: nothing before the first of several.
+fn push_or(out: &mut [u8], n: usize, first: bool, more: bool) -> usize {
+    if first {
+        return n;
+    }
+    if more {
+        return page::push_all(out, n, b", ");
+    }
+    page::push_all(out, n, b" or ")
+}
+
 // Puts the code of a layout that defines a key, behind those that are told already.
 fn push_if(out: &mut [u8], n: usize, hit: bool, first: bool, layout: usize, key: u64) -> usize {
     if !hit {
         return n;
     }
-    if first {
-        return push_pattern(out, n, layout, key);
-    }
-    let next = page::push_all(out, n, b" or ");
-    push_pattern(out, next, layout, key)
+    let joined = push_or(out, n, first, defined_behind(layout, key / ROOM));
+    push_pattern(out, joined, layout, key)
 }
 
 // Puts the codes of the cards that define a key.
