@@ -13,7 +13,7 @@ enum { CARD_SIZE = 80, CODE_SIZE = 5, MOST_FIELDS = 18 };
 enum spelling { SPELL_TEXT, SPELL_COMMENT, SPELL_WHOLE, SPELL_DECIMAL, SPELL_DATE, SPELL_Y, SPELL_X };
 
 // The values that a whole number may have.
-enum range { ANY, BIT, DIGIT, FROM_0, FROM_1, ONE_TO_9, UP_TO_4, UP_TO_99, UP_TO_360, SET_349, SET_019 };
+enum range { ANY, BIT, DIGIT, FROM_0, FROM_1, ONE_TO_9, UP_TO_4, UP_TO_5, UP_TO_11, UP_TO_99, UP_TO_360, SET_349, SET_019 };
 
 struct field {
     uint8_t spelling, first, last, range, needed;
@@ -27,7 +27,7 @@ struct layout {
     struct field fields[MOST_FIELDS];
 };
 
-enum { LAYOUTS = 26 };
+enum { LAYOUTS = 31 };
 extern const struct layout layouts[LAYOUTS];
 
 // The form by which Y and X are read: 0 angles, 1 grid; judging a card also knows FORM_UNKNOWN.

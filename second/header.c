@@ -2,10 +2,10 @@
 #include "header.h"
 
 // Places in `layouts`.
-enum { VESSEL_LINE = 8, WAYPOINTS = 9, GRID = 12, VARIATION = 13 };
+enum { VESSEL_LINE = 8, WAYPOINTS = 9, GRID = 12, VARIATION = 13, FIXED_NODE = 27 };
 
-// Columns: of the vessel number on H00@8 and on H00@9, and of the form on H00@8 and on H0100.
-enum { LINE_VESSEL = 30, WAYPOINT_VESSEL = 7, LINE_FORM = 32, GRID_FORM = 21 };
+// Columns: of the vessel number on H00@8 and on H00@9, and of the form on H00@8, on H0100 and on H5000.
+enum { LINE_VESSEL = 30, WAYPOINT_VESSEL = 7, LINE_FORM = 32, GRID_FORM = 21, NODE_FORM = 29 };
 
 // What the cards say of a form: not known before the first of them nor after the second.
 struct stated {
@@ -56,6 +56,7 @@ static unsigned form_for(const struct forms *f, const uint8_t *card, int code)
     case VESSEL_LINE: return form_said(at(card, LINE_FORM));
     case WAYPOINTS: return f->line[at(card, WAYPOINT_VESSEL)].form;
     case VARIATION: return f->grid.form;
+    case FIXED_NODE: return form_said(at(card, NODE_FORM));
     default: return FORM_UNKNOWN;
     }
 }

@@ -5,14 +5,16 @@
 #include <string.h>
 
 // Key classes.
-enum { DATUM = 1, STREAMER, NODE, SERIAL, SENSOR, LINE, WAYPOINT, POINT, GRID, CLASSES };
+enum { DATUM = 1, STREAMER, NODE, SERIAL, SENSOR, LINE, WAYPOINT, POINT, GRID, OBSERVATION, CLASSES };
 
 // What a column does: it defines or refers to a key, says the vessel that the code has to agree with, or states how many
 // points there are.
 enum role { NOTHING, DEFINES, REFERS, SAYS_VESSEL, STATES };
 
+// A number that is limited names a key only from the least to the greatest; any number does where both are 0.
 struct tie_column {
     uint8_t first, last, role, class;
+    uint16_t least, most;
 };
 
 // The tie columns by the place in `layouts`, from left to right.
@@ -31,6 +33,12 @@ static const struct tie_column columns[LAYOUTS][MOST_TIES + 1] = {
     [23] = {{7, 9, REFERS, STREAMER}, {11, 14, DEFINES, NODE}, {16, 23, DEFINES, SERIAL}, {36, 39, DEFINES, NODE},
             {41, 48, DEFINES, SERIAL}},
     [24] = {{7, 14, REFERS, SERIAL}},
+    [26] = {{9, 12, DEFINES, NODE}},
+    [27] = {{7, 10, DEFINES, NODE}},
+    [28] = {{7, 10, DEFINES, NODE}, {29, 31, REFERS, STREAMER, 200, 299}},
+    [29] = {{7, 10, DEFINES, OBSERVATION}, {29, 32, REFERS, NODE}, {34, 37, REFERS, NODE, 1, 9999},
+            {39, 42, REFERS, NODE, 1, 9999}},
+    [30] = {{7, 10, REFERS, OBSERVATION}},
 };
 
 // Numbers of keys: each class has its own from a first one on, serials as they come; behind them what is counted for a
@@ -48,7 +56,8 @@ enum {
     FIRST_WAYPOINT = FIRST_LINE + 10,
     FIRST_POINT = FIRST_WAYPOINT + 10 * WAYPOINTS,
     FIRST_GRID = FIRST_POINT + 10000,
-    LINE_POINTS = FIRST_GRID + 1,
+    FIRST_OBSERVATION = FIRST_GRID + 1,
+    LINE_POINTS = FIRST_OBSERVATION + 10000,
     GRID_POINTS = LINE_POINTS + 10,
     NUMBERS = GRID_POINTS + 1
 };
@@ -67,6 +76,7 @@ static const struct {
     [WAYPOINT] = {FIRST_WAYPOINT, 10 * WAYPOINTS, 0},
     [POINT] = {FIRST_POINT, 10000, 0},
     [GRID] = {FIRST_GRID, 1, 0},
+    [OBSERVATION] = {FIRST_OBSERVATION, 10000, 0},
 };
 
 // A tie column of a card: its key's number, and the code's vessel digit, or what is stated.
@@ -146,6 +156,8 @@ static void gather_card(struct ties *t, const uint8_t *card, uint16_t number, in
         struct tie d = {number, 0, card[3], c->first, c->role, c->class};
         if (c->class != GRID && is_blank(card, c))
             continue;
+        if (c->most != 0 && (whole_at(card, c) < c->least || whole_at(card, c) > c->most))
+            continue;
         if (c->role == STATES) {
             d.key = (uint16_t)(c->class == WAYPOINT ? LINE_POINTS + digit_at(card, 30) : GRID_POINTS);
             d.said = (uint16_t)whole_at(card, c);
@@ -187,11 +199,12 @@ static unsigned kinds_of(const struct ties *t, const struct tie *d)
     }
 }
 
-// The vessel digit in the code of a card with ties. The layouts of H00@8 and H00@9 have # for it, since it may be 0 there.
+// The vessel digit in the code of a card with ties. The layouts of H00@8, H00@9 and H51@0 have # for it, since it may be 0 there;
+// the two of H52## and H54## are a type.
 static uint32_t vessel_of(const uint8_t *card)
 {
     const char *code = layouts[code_of(card)].code;
-    return code[3] == '@' || memcmp(code, "H00#", 4) == 0 ? digit_at(card, 4) : NO_VESSEL;
+    return code[3] == '@' || (code[3] == '#' && code[4] != '#') ? digit_at(card, 4) : NO_VESSEL;
 }
 
 static int same_place(const struct tie *a, const struct tie *b)

@@ -13,16 +13,16 @@
 #include <stdlib.h>
 #include <string.h>
 
-enum { COLUMNS = 100, PASSED = 61, FIELDS = 130, NUMBERS = 15 };
+enum { COLUMNS = 100, PASSED = 56, FIELDS = 174, NUMBERS = 15 };
 
 static const char passed[PASSED][CODE_SIZE + 1] = {
     "H0130", "H0140", "H0150", "H0160", "H0170", "H0180", "H0181", "H0190", "H0199", "H0200", "H0210", "H0220", "H0230",
-    "H0240", "H10@0", "H11@0", "H12@0", "H12@1", "H13@0", "H14@#", "H1500", "H1501", "H16@0", "H16@1", "H16@2", "H23@1",
-    "H24@0", "H24@1", "H25@0", "H31@0", "H31@1", "H32@0", "H32@1", "H32@2", "H33@0", "H34@0", "H34@1", "H41@0", "H5000",
-    "H51@0", "H52##", "H5306", "H5307", "H54##", "H5500", "H56@0", "H600#", "H610#", "H620#", "H6300", "H6301", "H631#",
+    "H0240", "H10@0", "H11@0", "H12@0", "H12@1", "H13@0", "H14@#", "H1500", "H1501", "H16@0", "H16@2", "H23@1",
+    "H24@0", "H24@1", "H25@0", "H31@0", "H31@1", "H32@0", "H32@1", "H32@2", "H33@0", "H34@0", "H34@1", "H41@0", "H5306",
+    "H5307", "H5500", "H56@0", "H600#", "H610#", "H620#", "H6300", "H6301", "H631#",
     "H632#", "H6330", "H65##", "H66##", "H67@0", "H7000", "H7010", "H7020", "H7021"};
 
-static const char unknown[][CODE_SIZE + 1] = {"H0110", "H1700", "H1701", "H2100", "H2200", "H0211", "H5100", "H5600",
+static const char unknown[][CODE_SIZE + 1] = {"H0110", "H1700", "H1701", "H2100", "H2200", "H0211", "H1601", "H5600",
                                               "H6700", "C0003", "C0000", "E1000", "T14@0", "H0010", "H0131", "H1400",
                                               "H2302", "H9999", "h0000", "     ", "H00@8", "H0 18", "H8000", "H630:"};
 
@@ -104,8 +104,8 @@ static void nth_field(unsigned n, int texts, int *layout, uint64_t *number)
 
 // Digits that each range allows, and its largest value of more than one.
 static const char *const digits[] = {"0123456789", "01", "0123456789", "0123456789", "123456789", "123456789", "01234",
-                                     "0123456789", "0123456789", "349", "019"};
-static const int largest[] = {99999, 1, 9, 9999, 9999, 9, 4, 99, 360, 9, 9};
+                                     "012345", "0123456789", "0123456789", "0123456789", "349", "019"};
+static const int largest[] = {99999, 1, 9, 9999, 9999, 9, 4, 5, 11, 99, 360, 9, 9};
 
 // A value at an end of a range, or one beside it.
 static int64_t range_edge(unsigned range)
@@ -370,6 +370,12 @@ static void blank_field(uint8_t *card, const struct field *f)
     memset(card + f->first - 1, ' ', (size_t)f->last - f->first + 1);
 }
 
+// The form of a card's coordinates: its own, where it has a column for it, or the one that another card states.
+static uint64_t own_form(const uint8_t *card, int layout, uint64_t form)
+{
+    return layout == 8 ? card[31] == '1' : layout == 27 && card[28] != ' ' ? card[28] == '1' : form;
+}
+
 // A card of a layout, filled by chance; nothing on it is wrong.
 static void good_card(uint8_t *card, int layout, uint64_t form)
 {
@@ -382,7 +388,7 @@ static void good_card(uint8_t *card, int layout, uint64_t form)
     for (unsigned k = 1; k <= l->count; k++) {
         int wanted = l->fields[k - 1].needed || percent(filled);
         if (wanted && (l->second == 0 || k < l->second || second))
-            good_columns(card, &l->fields[k - 1], layout == 8 ? (uint64_t)(card[31] == '1') : form);
+            good_columns(card, &l->fields[k - 1], own_form(card, layout, form));
     }
 }
 
@@ -726,7 +732,7 @@ static void histogram(void)
 // Headers: good ones, then damaged.
 
 // The places in `layouts` of the codes that state a form or take one.
-enum { LINE = 8, WAYPOINTS = 9, COMMENT = 10, GRID = 12, VARIATION = 13, ROOM = 40 };
+enum { LINE = 8, WAYPOINTS = 9, COMMENT = 10, GRID = 12, VARIATION = 13, FIXED_NODE = 27, ROOM = 40 };
 
 // A header: its cards, the last one said `more` times more, and `spare` bytes of a card behind them.
 struct made {
@@ -769,7 +775,8 @@ static void good_rest(struct made *h, unsigned cards)
     struct test t;
     for (; cards; cards--) {
         uint8_t *card = h->at[h->count++];
-        int layout = percent(25) ? VARIATION : percent(15) ? GRID : COMMENT + (int)below(percent(20) ? 2 : LAYOUTS - COMMENT);
+        int any = COMMENT + (int)below(percent(20) ? 2 : LAYOUTS - COMMENT);
+        int layout = percent(25) ? VARIATION : percent(15) ? GRID : percent(15) ? FIXED_NODE : any;
         if (layout == GRID && grids++ > 0 && percent(80))
             layout = VARIATION;
         good_card(card, layout, form);
@@ -836,12 +843,14 @@ static void change_code(uint8_t *card)
 // Coordinates of another form, badly formed, or in a second set of which nothing else stands there.
 static void change_coordinates(struct made *h)
 {
-    int code = percent(60) ? WAYPOINTS : percent(70) ? VARIATION : LINE;
+    int code = percent(45) ? WAYPOINTS : percent(50) ? VARIATION : percent(70) ? FIXED_NODE : LINE;
     uint8_t *card = some_card(h, code);
     const struct layout *l = &layouts[code];
     unsigned k = below(l->count);
     for (; l->fields[k].spelling != SPELL_Y && l->fields[k].spelling != SPELL_X; k = (k + 1) % l->count)
         ;
+    if (code == FIXED_NODE && percent(50))
+        card[28] = '0';
     if (percent(30))
         edge_angle(card + l->fields[k].first - 1, l->fields[k].spelling);
     else if (percent(50))
@@ -854,7 +863,9 @@ static void change_coordinates(struct made *h)
 
 static void damage_header(struct made *h)
 {
-    unsigned i = below(h->count), j = below(h->count), k = below(CARD_SIZE), layout = percent(70) ? LINE : GRID;
+    unsigned i = below(h->count), j = below(h->count), k = below(CARD_SIZE);
+    int layout = percent(60) ? LINE : percent(60) ? GRID : FIXED_NODE;
+    unsigned form_at = layout == LINE ? 31 : layout == GRID ? 20 : 28;
     switch (below(18)) {
     case 0: swap_cards(h, i, j); break;
     case 1: swap_cards(h, i, (i + 1) % h->count); break;
@@ -866,7 +877,7 @@ static void damage_header(struct made *h)
     case 7: change_code(h->at[i]); break;
     case 8: some_card(h, LINE)[29] = percent(90) ? one_of("0123456789") : any_printable(); break;
     case 9: some_card(h, WAYPOINTS)[6] = percent(90) ? one_of("0123456789") : any_printable(); break;
-    case 10: some_card(h, (int)layout)[layout == LINE ? 31 : 20] = percent(70) ? one_of("01") : any_printable(); break;
+    case 10: some_card(h, layout)[form_at] = percent(70) ? one_of("01") : any_printable(); break;
     case 11:
     case 12:
     case 13: change_coordinates(h); break;
@@ -907,8 +918,8 @@ static void print_header(const struct made *h)
     putchar('\n');
 }
 
-// How often each refusal came; a 6 apart where cards are missing, 9 and 10 apart in coordinates whose form stands elsewhere.
-static unsigned refusals[NUMBERS], missed, borrowed[LAYOUTS][NUMBERS];
+// How often each refusal came; a 6 apart where cards are missing, 9 and 10 apart in coordinates by the code that has them.
+static unsigned refusals[NUMBERS], missed, in_coordinates[LAYOUTS][NUMBERS];
 
 static void count_header(const struct made *h)
 {
@@ -925,7 +936,7 @@ static void count_header(const struct made *h)
     int code = r.card > 0 && r.card <= h->count ? layout_at(h, r.card - 1) : -1;
     for (unsigned k = 0; code >= 0 && k < layouts[code].count; k++)
         if (layouts[code].fields[k].first == r.column && layouts[code].fields[k].spelling >= SPELL_Y)
-            borrowed[code][r.number]++;
+            in_coordinates[code][r.number]++;
 }
 
 static void header_histogram(void)
@@ -933,14 +944,16 @@ static void header_histogram(void)
     printf("headers: accepted %u, cards missing %u; refused", refusals[0], missed);
     for (int n = 1; n < NUMBERS; n++)
         printf(" %d %u", n, refusals[n]);
-    printf("; by a form that stands elsewhere: H00@9 9 %u, 10 %u; H0101 9 %u, 10 %u\n", borrowed[WAYPOINTS][9],
-           borrowed[WAYPOINTS][10], borrowed[VARIATION][9], borrowed[VARIATION][10]);
+    printf("; coordinates of H00@9 9 %u, 10 %u", in_coordinates[WAYPOINTS][9], in_coordinates[WAYPOINTS][10]);
+    printf("; H0101 9 %u, 10 %u", in_coordinates[VARIATION][9], in_coordinates[VARIATION][10]);
+    printf("; H5000 9 %u, 10 %u\n", in_coordinates[FIXED_NODE][9], in_coordinates[FIXED_NODE][10]);
     for (int n = 0; n <= 11; n++)
         demand(refusals[n], "header", n, 0);
     demand(missed, "header", 6, 1);
     for (int n = 9; n <= 10; n++) {
-        demand(borrowed[WAYPOINTS][n], "H00@9", n, 0);
-        demand(borrowed[VARIATION][n], "H0101", n, 0);
+        demand(in_coordinates[WAYPOINTS][n], "H00@9", n, 0);
+        demand(in_coordinates[VARIATION][n], "H0101", n, 0);
+        demand(in_coordinates[FIXED_NODE][n], "H5000", n, 0);
     }
 }
 

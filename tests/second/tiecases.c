@@ -13,10 +13,11 @@
 // Places in `layouts`.
 enum {
     LINE = 8, WAYPOINT = 9, COMMENT = 10, GRID = 12, POINT = 13, DATUM = 14, SHIFT = 15, SENSOR = 16, SENSED = 17,
-    STREAMER = 18, DETAIL = 19, NODE = 23, COMPASS = 24
+    STREAMER = 18, DETAIL = 19, NODE = 23, COMPASS = 24, TRANSDUCER = 26, FIXED = 27, ABOARD = 28, OBSERVED = 29,
+    MEASURED = 30
 };
 
-enum { OPENING = 8, SERIAL_SIZE = 8, KINDS = 5, CLASSES = 9, MOST_NUMBERS = MOST_FAULTS * ENTRY_SIZE };
+enum { OPENING = 8, SERIAL_SIZE = 8, KINDS = 5, CLASSES = 10, MOST_NUMBERS = MOST_FAULTS * ENTRY_SIZE };
 
 // Rooms that are each to be tried, and questions to a header.
 enum { ROOMS = 16, QUESTIONS = 3 };
@@ -30,7 +31,9 @@ static const struct keyed keyed[] = {
     {LINE, 30, 30, 6},    {WAYPOINT, 7, 7, 6},  {WAYPOINT, 9, 11, 7}, {WAYPOINT, 39, 41, 7}, {POINT, 7, 10, 8},
     {DATUM, 5, 5, 1},     {SHIFT, 7, 7, 1},     {SHIFT, 9, 9, 1},     {SENSOR, 7, 7, 5},     {SENSED, 7, 7, 5},
     {STREAMER, 7, 9, 2},  {DETAIL, 7, 9, 2},    {NODE, 7, 9, 2},      {NODE, 11, 14, 3},     {NODE, 16, 23, 4},
-    {NODE, 36, 39, 3},    {NODE, 41, 48, 4},    {COMPASS, 7, 14, 4}};
+    {NODE, 36, 39, 3},    {NODE, 41, 48, 4},    {COMPASS, 7, 14, 4},
+    {TRANSDUCER, 9, 12, 3}, {FIXED, 7, 10, 3},  {ABOARD, 7, 10, 3},   {ABOARD, 29, 31, 2},   {OBSERVED, 7, 10, 10},
+    {OBSERVED, 29, 32, 3}, {OBSERVED, 34, 37, 3}, {OBSERVED, 39, 42, 3}, {MEASURED, 7, 10, 10}};
 enum { KEYED = sizeof keyed / sizeof *keyed };
 
 // The kinds that can stand at a column, as digits.
@@ -41,7 +44,9 @@ static const struct {
                 {GRID, 7, "2"},   {GRID, 16, "5"},     {POINT, 7, "123"},    {DATUM, 5, "2"},    {SHIFT, 7, "13"},
                 {SHIFT, 9, "13"}, {SENSOR, 7, "2"},    {SENSED, 7, "134"},   {STREAMER, 7, "2"}, {DETAIL, 7, "134"},
                 {NODE, 7, "134"}, {NODE, 11, "2"},     {NODE, 16, "2"},      {NODE, 36, "2"},    {NODE, 41, "2"},
-                {COMPASS, 7, "134"}};
+                {COMPASS, 7, "134"},    {TRANSDUCER, 9, "2"},   {FIXED, 7, "2"},      {ABOARD, 7, "2"},
+                {ABOARD, 29, "134"},    {OBSERVED, 7, "2"},     {OBSERVED, 29, "13"}, {OBSERVED, 34, "13"},
+                {OBSERVED, 39, "13"},   {MEASURED, 7, "13"}};
 
 // The pairs of kinds that can stand at one place.
 static const struct {
@@ -213,6 +218,62 @@ static void add_streamer(unsigned number, struct deck *node, struct deck *serial
     }
 }
 
+// A streamer's card, found by chance, or NULL.
+static const uint8_t *some_streamer(void)
+{
+    unsigned from = below(cards);
+    for (unsigned i = 0; i < cards; i++)
+        if (code_of(header[(from + i) % cards]) == STREAMER)
+            return header[(from + i) % cards];
+    return NULL;
+}
+
+// A node of one of the codes of the network; one aboard a relay has the digit 0, one on a streamer names it.
+static void add_node(unsigned number)
+{
+    const uint8_t *streamer = some_streamer();
+    unsigned code = below(3), on_streamer = percent(60), relay = percent(30);
+    if (code == 0) {
+        write_whole(new_card("H16@1", any_vessel()), 9, 12, number);
+    } else if (code == 1) {
+        write_whole(new_card("H5000", 0), 7, 10, number);
+    } else if (streamer && on_streamer) {
+        uint8_t *card = new_card("H51@0", (unsigned)(streamer[3] - '0'));
+        write_whole(card, 7, 10, number);
+        memcpy(card + 28, streamer + 6, 3);
+    } else {
+        uint8_t *card = new_card("H51@0", relay ? 0 : any_vessel());
+        write_whole(card, 7, 10, number);
+        if (percent(30))
+            write_whole(card, 29, 31, percent(50) ? below(200) : 300 + below(700));
+    }
+}
+
+// Nodes, observations from one of them to others or to the ship's head, and their parameters.
+static void add_network(struct deck *node)
+{
+    struct deck observation = deal(9999);
+    unsigned nodes[3];
+    for (unsigned k = 0; k < 3; k++) {
+        nodes[k] = 1 + draw(node);
+        add_node(nodes[k]);
+    }
+    for (unsigned k = below(4), number; k; k--) {
+        uint8_t *card = new_card("H5200", 0);
+        card[3] = one_of("0123456789");
+        card[4] = one_of("0123456789");
+        number = 1 + draw(&observation);
+        write_whole(card, 7, 10, number);
+        for (unsigned at = 29; at <= 39; at += 5)
+            if (percent(80))
+                write_whole(card, at, at + 3, at > 29 && percent(20) ? 0 : nodes[below(3)]);
+        if (percent(70))
+            write_whole(new_card("H5406", 0), 7, 10, number);
+    }
+    if (percent(20))
+        new_card("H5401", 0);
+}
+
 static void add_others(void)
 {
     static const char *const codes[] = {"C0001", "C0002", "H21@2", "H21@3", "H2300", "H23@1", "H0210", "H6101"};
@@ -239,7 +300,8 @@ static unsigned opening(void)
 
 static void make_sound(unsigned streamers)
 {
-    struct deck streamer = deal(1000), node = deal(9999), serial = deal(100);
+    unsigned from = percent(50) ? 200 : 0;
+    struct deck streamer = deal(from ? 100 : 1000), node = deal(9999), serial = deal(100);
     open_header();
     unsigned first = cards;
     if (percent(60))
@@ -249,7 +311,9 @@ static void make_sound(unsigned streamers)
     if (percent(60))
         add_sensors();
     for (; streamers; streamers--)
-        add_streamer(draw(&streamer), &node, &serial);
+        add_streamer(from + draw(&streamer), &node, &serial);
+    if (percent(50))
+        add_network(&node);
     add_others();
     for (unsigned i = first; i < cards; i++)
         swap_cards(i, first + below(cards - first));
@@ -270,7 +334,7 @@ static void write_key(uint8_t *card, const struct keyed *k, unsigned n)
     else if (k->first == 5 || k->first == k->last)
         card[k->first - 1] = (uint8_t)('1' + n % 9);
     else
-        write_whole(card, k->first, k->last, 1 + n);
+        write_whole(card, k->first, k->last, (k->class == 2 && percent(50) ? 200 : 1) + n);
     if (k->layout == NODE && k->first == 41 && card[38] == ' ')
         write_whole(card, 36, 39, 1 + n);
 }
@@ -333,7 +397,7 @@ static void break_tie(void)
     case 4:
         if (has_vessel(code))
             header[i][3] = one_of("123");
-        else if (code == LINE || code == WAYPOINT)
+        else if (code == LINE || code == WAYPOINT || code == ABOARD)
             header[i][3] = one_of("0123");
         break;
     case 5: change_stated(i); break;
@@ -448,7 +512,7 @@ static void change_offer(struct question *q)
 
 static struct question make_question(void)
 {
-    static const uint64_t classes[] = {0, 10, 11, 255, 256, 4294967297, UINT64_MAX};
+    static const uint64_t classes[] = {0, 11, 12, 255, 256, 4294967297, UINT64_MAX};
     struct question q = {0};
     unsigned i = below(cards), r = below(KEYED), any = 1 + below(CLASSES), odd = below(7);
     for (unsigned tries = 0; keyed[r].layout != code_of(header[i]) && tries < 100; tries++)
