@@ -1,5 +1,5 @@
 -- The list card by card, each card's faults looked for at the sites of its layout only.
-use Prim.Native.Nat.{ℕ, zero, suc, _+_, _*_, _/_, _%_, _<_}
+use Prim.Native.Nat.{ℕ, zero, suc, _+_, _-_, _*_, _/_, _%_, _<_}
 use native.Mathlib.Nat.{add-zero, add-suc, mul-zero, mul-suc}
 use native.Mathlib.Omega.{arith}
 use mathlib.Core.Path.{_≡_, refl, sym, ap, _∙_}
@@ -10,7 +10,8 @@ use Rattle.base_lists.specs.Parts.{keep, kept, upTo}
 use Rattle.base_lists.proofs.Keeping.{kept-append, kept-map, kept-same, out-of-kept, out-of-upTo}
 use Rattle.base_lists.proofs.Entries.{entries-more}
 use Rattle.header_check.specs.forms.Cards.{cardAt, cardsIn, layoutOf}
-use Rattle.tie_rules.specs.Faults.{kinds, broken, onCard, triples, brokenAt, faults, entryFor, entryOf}
+use Rattle.tie_rules.specs.Faults.{kinds, brokenOn, broken, onCard, triples, brokenAt, faults, entryFor, entryOf}
+use Rattle.tie_rules.specs.Keys.{vesselOf}
 use Rattle.tie_laws.proofs.Sites.{Within, isSite, at-site}
 use Rattle.tie_laws.proofs.Complete.{listOf}
 
@@ -112,3 +113,39 @@ module _ (h : List ℕ) where
       ap (map (entryOf h)) (kept-runs (brokenAt h) onCard (cardsIn h))
       ∙ map-flatMap (entryOf h) (λ c. map (λ i. onCard * c + i) (kept (λ i. brokenAt h (onCard * c + i)) (upTo onCard))) (upTo (cardsIn h))
       ∙ flatMap-same _ (entriesOn h) (upTo (cardsIn h)) on-card
+
+-- the number of a site: its column, then its kind
+abbrev pub site : ℕ → ℕ → ℕ
+site column kind = kinds * (column - 1) + (kind - 1)
+
+-- the entries of a card by its bytes, from some sites
+unfoldable pub entriesFrom : List ℕ → ℕ → List ℕ → List ℕ → List (List ℕ)
+entriesFrom h c s sites =
+    map (λ i. (c + 1) ∷ (i / kinds + 1) ∷ (i % kinds + 1) ∷ vesselOf s ∷ [])
+    (kept (λ i. brokenOn h s (i / kinds + 1) (i % kinds + 1)) sites)
+
+-- those of some cards, each with its number, its bytes and its sites
+unfoldable pub entriesAlong : List ℕ → List ℕ → List (List ℕ) → List (List ℕ) → List (List ℕ)
+entriesAlong h [] ss ts = []
+entriesAlong h (c ∷ cs) [] ts = []
+entriesAlong h (c ∷ cs) (s ∷ ss) [] = []
+entriesAlong h (c ∷ cs) (s ∷ ss) (t ∷ ts) = entriesFrom h c s t ++ entriesAlong h cs ss ts
+
+-- the sites of some cards
+unfoldable pub sitesOn : List (List ℕ) → List (List ℕ)
+sitesOn cards = map (λ s. sitesOf (layoutOf s)) cards
+
+along : (h cs : List ℕ) → flatMap (entriesOn h) cs ≡ entriesAlong h cs (map (cardAt h) cs) (sitesOn (map (cardAt h) cs))
+unfolding flatMap entriesAlong entriesOn entriesFrom broken sitesOn
+along h [] = refl
+along h (c ∷ cs) = ap (λ l. entriesFrom h c (cardAt h c) (sitesOf (layoutOf (cardAt h c))) ++ l) (along h cs)
+
+-- the list of a header whose cards and their sites are known
+pub listed-along : (h : List ℕ) (n : ℕ) (cards sites : List (List ℕ)) → cardsIn h ≡ n → map (cardAt h) (upTo n) ≡ cards
+    → sitesOn cards ≡ sites → listOf h ≡ entriesAlong h (upTo n) cards sites
+listed-along h n cards sites e q r =
+    card-by-card h
+    ∙ ap (λ m. flatMap (entriesOn h) (upTo m)) e
+    ∙ along h (upTo n)
+    ∙ ap (λ ss. entriesAlong h (upTo n) ss (sitesOn ss)) q
+    ∙ ap (entriesAlong h (upTo n) cards) r

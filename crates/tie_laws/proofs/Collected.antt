@@ -72,3 +72,14 @@ contradictions-collected h class key vessel =
     regrouped : (a b c : Bool) → ((a && b) && c) ≡ (a && (b && c))
     regrouped true b c = refl
     regrouped false b c = refl
+
+-- with all of them at hand, those of a key are counted among them
+module _ (h : List ℕ) (defined : List Definition) (all : collected h ≡ defined) where
+  pub times-among : (class : ℕ) (key : List ℕ) → definitionsOf h class key ≡ length (kept (isOf class key) defined)
+  times-among class key = definitions-collected h class key ∙ ap (λ l. length (kept (isOf class key) l)) all
+
+  pub against-among : (class : ℕ) (key : List ℕ) (vessel : ℕ)
+      → contradictionsOf h class key vessel ≡ length (kept (λ d. isOf class key d && contradict vessel (d .vessel)) defined)
+  against-among class key vessel =
+      contradictions-collected h class key vessel
+      ∙ ap (λ l. length (kept (λ d. isOf class key d && contradict vessel (d .vessel)) l)) all

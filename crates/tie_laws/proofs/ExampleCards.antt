@@ -43,8 +43,9 @@ abbrev pub joined : List (List ℕ) → List ℕ
 joined [] = []
 joined (s ∷ ss) = s ++ joined ss
 
-unfoldable pub example : List ℕ
-example = joined (
+-- H0000 to H0007, with nothing but their labels
+abbrev pub openingCards : List (List ℕ)
+openingCards =
     card "H0000" "Line Name:" [] ∷
     card "H0001" "Project Name:" [] ∷
     card "H0002" "Project Description:" [] ∷
@@ -53,9 +54,10 @@ example = joined (
     card "H0005" "Geophysical Contractor:" [] ∷
     card "H0006" "Positioning Contractor:" [] ∷
     card "H0007" "Processing Contractor:" [] ∷
-    lineCard ∷
-    streamerCard ∷
-    nodeCard ∷
-    otherNodeCard ∷
-    compassCard ∷
-    [])
+    []
+
+abbrev pub exampleCards : List (List ℕ)
+exampleCards = openingCards ++ (lineCard ∷ streamerCard ∷ nodeCard ∷ otherNodeCard ∷ compassCard ∷ [])
+
+unfoldable pub example : List ℕ
+example = joined exampleCards

@@ -1,12 +1,11 @@
 -- The working of the example: what it defines, and the faults of each card from the sites of its layout.
-use Prim.Native.Nat.{ℕ, _+_, _*_, _-_, _/_, _%_}
-use mathlib.Core.Path.{_≡_, refl, ap, ap₂, _∙_}
+use Prim.Native.Nat.{ℕ}
+use mathlib.Core.Path.{_≡_, refl, _∙_}
 use mathlib.Core.Bool.{_&&_}
-use mathlib.Core.List.{List, [], _∷_, _++_, map, flatMap}
-use lib.ListN.{length, getD}
+use mathlib.Core.List.{List, [], _∷_, map}
+use lib.ListN.{length}
 use Rattle.base_lists.specs.Count.{count}
 use Rattle.base_lists.specs.Parts.{alike, part, kept, upTo}
-use Rattle.base_lists.proofs.Entries.{entries-append}
 use Rattle.base_digits.specs.digits.Figures.{blanks, unpadded, leading, behind, valueFrom}
 use Rattle.base_digits.specs.signs.Signs.{signedOf}
 use Rattle.value_number.specs.number.Reading.{pointOf, figuresOf, heldOf, signOf, numberOf}
@@ -23,12 +22,12 @@ use Rattle.tie_rules.specs.Ties.{ties, lineIn, lineFor, hasVessel, statesOwn, s
 use Rattle.tie_rules.specs.Keys.{isNone, between, wholeKey, wholeIn, paired, keyIn, classAt, keyAt, holdsKey, vesselOf, contradict}
 use Rattle.tie_rules.specs.Definitions.{places, cardOf, columnOf, definitionsOf, contradictionsOf}
 use Rattle.tie_rules.specs.Faults.{definitionsAt, undefined, redefined, ambiguous, contradicted, differs, miscounted, misplacedAmong, misplaced}
-use Rattle.tie_rules.specs.Faults.{kinds, brokenOn, broken}
+use Rattle.tie_rules.specs.Faults.{brokenOn}
 use Rattle.tie_laws.proofs.Complete.{listOf}
 use Rattle.tie_laws.proofs.Sites.{hasLine, numberAmong, isSite}
-use Rattle.tie_laws.proofs.CardByCard.{sitesOf, entriesOn, card-by-card}
-use Rattle.tie_laws.proofs.Collected.{Definition, collected, isOf, definitions-collected, contradictions-collected}
-use Rattle.tie_laws.proofs.ExampleCards.{lineCard, streamerCard, nodeCard, otherNodeCard, compassCard, example}
+use Rattle.tie_laws.proofs.CardByCard.{site, sitesOf, entriesFrom, entriesAlong, sitesOn, listed-along}
+use Rattle.tie_laws.proofs.Collected.{Definition, collected, isOf, times-among, against-among}
+use Rattle.tie_laws.proofs.ExampleCards.{exampleCards, example}
 
 abbrev definition : ℕ → List ℕ → ℕ → Definition
 definition class key vessel = record { class = class; key = key; vessel = vessel }
@@ -49,13 +48,11 @@ all-defined = refl
 
 -- how often a key is defined
 defined-times : (class : ℕ) (key : List ℕ) → definitionsOf example class key ≡ length (kept (isOf class key) defined)
-defined-times class key = definitions-collected example class key ∙ ap (λ l. length (kept (isOf class key) l)) all-defined
+defined-times = times-among example defined all-defined
 
 against-times : (class : ℕ) (key : List ℕ) (vessel : ℕ)
     → contradictionsOf example class key vessel ≡ length (kept (λ d. isOf class key d && contradict vessel (d .vessel)) defined)
-against-times class key vessel =
-    contradictions-collected example class key vessel
-    ∙ ap (λ l. length (kept (λ d. isOf class key d && contradict vessel (d .vessel)) l)) all-defined
+against-times = against-among example defined all-defined
 
 pub one-streamer : definitionsOf example 2 (1 ∷ []) ≡ 1
 unfolding kept isOf alike
@@ -94,34 +91,20 @@ against : contradictionsOf example 2 (1 ∷ []) 2 ≡ 1
 unfolding kept isOf alike contradict
 against = against-times 2 (1 ∷ []) 2
 
--- cards 1 to 8 can carry only misplaced numbers, and have none
-first-eight : flatMap (entriesOn example) (upTo 8) ≡ []
-unfolding kept part upTo flatMap layouts passedCodes byteFits fitsAt fits codes placeIn codeAt codeOf cardAt layoutOf ties
-    lineIn lineFor hasLine statesOwn statesCount layoutAt fieldsOf spellingOf numberAmong isSite sitesOf textEnd columnsOf
-    pushedLeft misplacedIn misplacedOn misplacedAmong misplaced brokenOn broken entriesOn example
-first-eight = refl
+-- its cards, and the sites of their layouts: on H0000 to H0007 only numbers can be misplaced
+cards-there : map (cardAt example) (upTo 13) ≡ exampleCards
+unfolding part upTo cardAt example
+cards-there = refl
 
--- the other five, the sites of their layouts, and the faults there
-abbrev five : List (List ℕ)
-five = lineCard ∷ streamerCard ∷ nodeCard ∷ otherNodeCard ∷ compassCard ∷ []
-
-five-there : map (cardAt example) (8 ∷ 9 ∷ 10 ∷ 11 ∷ 12 ∷ []) ≡ five
-unfolding part cardAt example
-five-there = refl
-
--- the number of a site: its column, then its kind
-abbrev site : ℕ → ℕ → ℕ
-site column kind = kinds * (column - 1) + (kind - 1)
-
-abbrev lineSites : List ℕ
+abbrev pub lineSites : List ℕ
 lineSites =
     site 30 2 ∷ site 30 4 ∷ site 30 6 ∷ site 32 6 ∷ site 59 6 ∷ site 66 6 ∷ site 70 6 ∷ site 77 6 ∷ site 79 5 ∷ site 79 6 ∷ []
 
-abbrev streamerSites : List ℕ
+abbrev pub streamerSites : List ℕ
 streamerSites =
     site 7 2 ∷ site 7 6 ∷ site 11 6 ∷ site 19 6 ∷ site 27 6 ∷ site 35 6 ∷ site 43 6 ∷ site 51 6 ∷ site 58 6 ∷ site 66 6 ∷ []
 
-abbrev nodeSites : List ℕ
+abbrev pub nodeSites : List ℕ
 nodeSites =
     site 7 1 ∷ site 7 3 ∷ site 7 4 ∷ site 7 6 ∷ site 11 2 ∷ site 11 6 ∷ site 16 2 ∷ site 25 6 ∷ site 34 6 ∷ site 36 2 ∷
     site 36 6 ∷ site 41 2 ∷ site 50 6 ∷ site 59 6 ∷ []
@@ -132,66 +115,29 @@ compassSites =
     site 21 6 ∷ site 24 6 ∷ site 28 6 ∷ site 31 6 ∷ site 35 6 ∷ site 38 6 ∷ site 42 6 ∷ site 45 6 ∷
     site 49 6 ∷ site 52 6 ∷ site 56 6 ∷ site 59 6 ∷ site 63 6 ∷ site 66 6 ∷ site 70 6 ∷ site 73 6 ∷ []
 
-abbrev fiveSites : List (List ℕ)
-fiveSites = lineSites ∷ streamerSites ∷ nodeSites ∷ nodeSites ∷ compassSites ∷ []
+abbrev sites : List (List ℕ)
+sites =
+    (site 46 6 ∷ []) ∷ [] ∷ [] ∷ (site 78 6 ∷ []) ∷ [] ∷ [] ∷ [] ∷ [] ∷ lineSites ∷ streamerSites ∷ nodeSites ∷ nodeSites ∷ compassSites ∷ []
 
-their-sites : map (λ s. sitesOf (layoutOf s)) five ≡ fiveSites
+their-sites : sitesOn exampleCards ≡ sites
 unfolding kept upTo layouts passedCodes byteFits fitsAt fits codes placeIn codeAt codeOf layoutOf ties lineIn lineFor hasLine
-    statesOwn statesCount layoutAt fieldsOf spellingOf numberAmong isSite sitesOf
+    statesOwn statesCount layoutAt fieldsOf spellingOf numberAmong isSite sitesOf sitesOn
 their-sites = refl
-
--- the entries of a card by its bytes, from some sites
-unfoldable entriesFrom : ℕ → List ℕ → List ℕ → List (List ℕ)
-entriesFrom c s sites =
-    map (λ i. (c + 1) ∷ (i / kinds + 1) ∷ (i % kinds + 1) ∷ vesselOf s ∷ []) (kept (λ i. brokenOn example s (i / kinds + 1) (i % kinds + 1)) sites)
-
-on-card : (c : ℕ) (s sites : List ℕ) → cardAt example c ≡ s → sitesOf (layoutOf s) ≡ sites
-    → entriesOn example c ≡ entriesFrom c s sites
-unfolding entriesOn broken entriesFrom
-on-card c s sites e q =
-    ap (λ r. entriesFrom c r (sitesOf (layoutOf r))) e ∙ ap (entriesFrom c s) q
 
 abbrev four : List (List ℕ)
 four = (11 ∷ 11 ∷ 2 ∷ 1 ∷ []) ∷ (11 ∷ 36 ∷ 2 ∷ 1 ∷ []) ∷ (12 ∷ 7 ∷ 4 ∷ 2 ∷ []) ∷ (13 ∷ 7 ∷ 1 ∷ 1 ∷ []) ∷ []
 
-their-entries :
-    entriesFrom 8 lineCard lineSites
-    ++ (entriesFrom 9 streamerCard streamerSites
-    ++ (entriesFrom 10 nodeCard nodeSites
-    ++ (entriesFrom 11 otherNodeCard nodeSites ++ (entriesFrom 12 compassCard compassSites ++ []))))
-    ≡ four
-unfolding alike kept blanks unpadded leading behind valueFrom signedOf pointOf figuresOf heldOf signOf numberOf textEnd textOf
+their-entries : entriesAlong example (upTo 13) exampleCards sites ≡ four
+unfolding alike kept upTo blanks unpadded leading behind valueFrom signedOf pointOf figuresOf heldOf signOf numberOf textEnd textOf
     wholeReading readingOf layouts passedCodes byteFits fitsAt fits codes placeIn codeAt codeOf byteIn layoutOf ties lineIn
     lineFor hasVessel isNone between wholeKey wholeIn paired keyIn classAt keyAt holdsKey vesselOf definitionsAt undefined
     redefined ambiguous statesOwn contradicted differs miscounted layoutAt fieldsOf spellingOf columnsOf numberIn pushedLeft
-    misplacedIn misplacedOn misplacedAmong misplaced brokenOn entriesFrom
+    misplacedIn misplacedOn misplacedAmong misplaced brokenOn entriesFrom entriesAlong
 their-entries = rw (one-line, one-streamer, two-nodes, one-node, serial-17, serial-18, no-serial, not-against, against)
-
-other-five : flatMap (entriesOn example) (8 ∷ 9 ∷ 10 ∷ 11 ∷ 12 ∷ []) ≡ four
-unfolding flatMap
-other-five = rw (
-  on-card 8 lineCard lineSites (there 0) (sites 0),
-  on-card 9 streamerCard streamerSites (there 1) (sites 1),
-  on-card 10 nodeCard nodeSites (there 2) (sites 2),
-  on-card 11 otherNodeCard nodeSites (there 3) (sites 3),
-  on-card 12 compassCard compassSites (there 4) (sites 4),
-) their-entries
-  where
-    there : (i : ℕ) → getD (map (cardAt example) (8 ∷ 9 ∷ 10 ∷ 11 ∷ 12 ∷ [])) i [] ≡ getD five i []
-    there i = ap (λ l. getD l i []) five-there
-
-    sites : (i : ℕ) → getD (map (λ s. sitesOf (layoutOf s)) five) i [] ≡ getD fiveSites i []
-    sites i = ap (λ l. getD l i []) their-sites
 
 pub thirteen : cardsIn example ≡ 13
 unfolding cardsIn example
 thirteen = refl
 
--- card by card, the first eight and the other five
 pub by-cards : listOf example ≡ four
-unfolding upTo
-by-cards =
-    card-by-card example
-    ∙ ap (λ n. flatMap (entriesOn example) (upTo n)) thirteen
-    ∙ entries-append (entriesOn example) (upTo 8) (8 ∷ 9 ∷ 10 ∷ 11 ∷ 12 ∷ [])
-    ∙ ap₂ _++_ first-eight other-five
+by-cards = listed-along example 13 exampleCards sites thirteen cards-there their-sites ∙ their-entries

@@ -16,4 +16,7 @@ pub mod Collected
 pub mod ExampleCards
 pub mod ExampleSteps
 pub mod Example
+pub mod NetworkCards
+pub mod NetworkSteps
+pub mod Network
 pub mod Slips

@@ -52,8 +52,9 @@ vessels-by-code = refl
 -- the vessel of a card is that digit, whatever its vessel field says; 10 where the code has none
 pub vessels-told : map vesselOf (
     bytes "H0008" ∷ bytes "H0018Line Parameters Vessel: 2" ∷ bytes "H0029 3" ∷ bytes "H1731" ∷ bytes "H2190" ∷ bytes "H2350" ∷
-    bytes "H0000" ∷ bytes "H0100" ∷ bytes "H0101" ∷ bytes "H0112" ∷ bytes "H0120" ∷ bytes "H2300" ∷ bytes "H2301" ∷ bytes "C0001" ∷ [])
-    ≡ 0 ∷ 1 ∷ 2 ∷ 3 ∷ 9 ∷ 5 ∷ 10 ∷ 10 ∷ 10 ∷ 10 ∷ 10 ∷ 10 ∷ 10 ∷ 10 ∷ []
+    bytes "H0000" ∷ bytes "H0100" ∷ bytes "H0101" ∷ bytes "H0112" ∷ bytes "H0120" ∷ bytes "H2300" ∷ bytes "H2301" ∷ bytes "C0001" ∷
+    bytes "H1611" ∷ bytes "H5100" ∷ bytes "H5120" ∷ bytes "H5000" ∷ bytes "H5201" ∷ bytes "H5499" ∷ [])
+    ≡ 0 ∷ 1 ∷ 2 ∷ 3 ∷ 9 ∷ 5 ∷ 10 ∷ 10 ∷ 10 ∷ 10 ∷ 10 ∷ 10 ∷ 10 ∷ 10 ∷ 1 ∷ 0 ∷ 2 ∷ 10 ∷ 10 ∷ 10 ∷ []
 unfolding layouts passedCodes byteFits fitsAt fits codes placeIn codeAt codeOf byteIn layoutOf hasVessel vesselOf
 vessels-told = refl
 

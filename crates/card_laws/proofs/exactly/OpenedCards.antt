@@ -307,6 +307,8 @@ pub opened-verdicts : map (λ (l : Layout). verdictFrom (missingAt (l .fields)) 
     -- H17@0, H17@1, H21@0 to H21@3
     Offence 11 7 ∷ Offence 11 7 ∷ Offence 11 7 ∷ Offence 11 7 ∷ Fine ∷ Fine ∷
     -- H22@0, H2300, H23@0, H2301
-    Offence 11 7 ∷ Fine ∷ Offence 11 7 ∷ Fine ∷ []
+    Offence 11 7 ∷ Fine ∷ Offence 11 7 ∷ Fine ∷
+    -- H16@1, H5000, H51@0, H52##, H54##
+    Offence 11 9 ∷ Offence 11 7 ∷ Offence 11 7 ∷ Offence 11 7 ∷ Fine ∷ []
 unfolding layouts missingAt verdictFrom verdictAt firstFrom
 opened-verdicts = refl
