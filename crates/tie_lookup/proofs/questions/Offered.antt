@@ -48,7 +48,7 @@ module _ (class : ℕ) (key : List ℕ) (b : borne class key ≡ true) where
       go (a-pair x y q k l m e) = rw q
       go (a-whole n w k l e) =
           let c = whole-class class w in
-          and-both (leb 1 class) (leb class 9) (le-leb 1 class (c .some)) (le-leb class 9 (c .last))
+          and-both (leb 1 class) (leb class 10) (le-leb 1 class (c .some)) (le-leb class 10 (c .last))
 
 -- a key of another kind than its class, a number below 0 and a blank text are no keys
 module _ (class : ℕ) (text : List ℕ) where

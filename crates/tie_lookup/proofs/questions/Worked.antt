@@ -28,13 +28,13 @@ told-there = (
   none-exactly example 4 Text (bytes "A19  ") accepted refl .1 no-serial,
 )
 
--- a pair is no node, a number below 0 neither; and there is no class 10
+-- a pair is no node, a number below 0 neither; and there is no class 11
 pub nothing-there : (keyAnswer example 3 (Pair (pos 214) (pos 1)) [] ≡ None)
     × (keyAnswer example 3 (Whole (negsuc 213)) [] ≡ None)
-    × (keyAnswer example 10 (Whole (pos 214)) [] ≡ Refused (refusal 13 0 0))
+    × (keyAnswer example 11 (Whole (pos 214)) [] ≡ Refused (refusal 13 0 0))
 unfolding isClass keyOffered wholeOffered pairOffered natural isWhole
 nothing-there = (
   no-key example 3 (Pair (pos 214) (pos 1)) [] accepted refl refl,
   no-key example 3 (Whole (negsuc 213)) [] accepted refl refl,
-  no-class example 10 (Whole (pos 214)) [] accepted refl,
+  no-class example 11 (Whole (pos 214)) [] accepted refl,
 )
