@@ -273,6 +273,7 @@ static void make_rows(void)
             grown[g].make(&h, sizes[k]);
             grown[g].rows[k] = check_row(grown[g].name, grown[g].make, sizes[k], faults_of(g, &h));
         }
+    check_row("check: network cards among them", make_network, MOST_CARDS, 0);
     check_row("check: 50 faults", make_faulty, MOST_CARDS, 50);
     check_row("check: refused at the last column of the last card", make_late, MOST_CARDS, -P294_NO_FIELD_HERE);
     card_rows(grown[CLEAN].rows[SIZES - 1]->header);

@@ -182,6 +182,70 @@ static void make_line(struct made *h, unsigned cards, enum keys keys)
     }
 }
 
+// The network.
+
+enum { NODES = 4, FIRST_NODE = 8000, FIXED_NODE = 7999 };
+
+static void open_network(struct made *h)
+{
+    uint8_t *card = new_card(h, "H5000");
+    right(card, 10, "%u", FIXED_NODE);
+    left(card, 12, "A platform       0 0611542.318N 0021830.774E");
+    card = new_card(h, "H5100");
+    right(card, 10, "%u", FIXED_NODE - 1);
+    left(card, 12, "A relay buoy");
+    card = new_card(h, "H1611");
+    left(card, 7, "1");
+    right(card, 12, "%u", FIXED_NODE - 2);
+    right(card, 20, "-1.5");
+}
+
+// Nodes on a streamer, ranges from one to the next and to the platform, and the parameters of each range.
+static void add_ranges(struct made *h, unsigned streamer, unsigned n)
+{
+    static const uint8_t offsets[] = {39, 47, 55}, parameters[] = {23, 36, 53, 64, 73};
+    for (unsigned i = 0; i < NODES; i++) {
+        uint8_t *card = new_card(h, "H5110");
+        right(card, 10, "%u", FIRST_NODE + n + i);
+        left(card, 12, "A float");
+        right(card, 31, "%u", streamer);
+        for (unsigned k = 0; k < sizeof offsets; k++)
+            right(card, offsets[k], "-%u.5", 10 + i + k);
+    }
+    for (unsigned i = 0; i < NODES; i++) {
+        uint8_t *card = new_card(h, "H5201");
+        right(card, 10, "%u", 1 + n + i);
+        left(card, 12, "A range");
+        right(card, 32, "%u", FIRST_NODE + n + i);
+        right(card, 37, "%u", FIRST_NODE + n + (i + 1) % NODES);
+        right(card, 42, "%u", FIXED_NODE);
+        right(card, 49, "1");
+        card = new_card(h, "H5401");
+        right(card, 10, "%u", 1 + n + i);
+        for (unsigned k = 0; k < sizeof parameters; k++)
+            right(card, parameters[k], "%u.250", 1 + k);
+    }
+}
+
+void make_network(struct made *h, unsigned cards)
+{
+    size_t size = cards * (size_t)CARD_SIZE, block = (2 + 3 * 4 + 3 * NODES) * (size_t)CARD_SIZE;
+    open_line(h);
+    add_geodesy(h);
+    open_network(h);
+    for (unsigned s = 0; h->size + block <= size; s++) {
+        add_streamer(h, 201 + s);
+        for (unsigned n = 8 * s; n < 8 * s + 8; n += 2) {
+            add_compasses(h, 201 + s, EACH_ITS_OWN, n);
+            add_corrections(h, EACH_ITS_OWN, n);
+            add_corrections(h, EACH_ITS_OWN, n + 1);
+        }
+        add_ranges(h, 201 + s, NODES * s);
+    }
+    while (h->size < size)
+        left(new_card(h, "C0001"), 6, "Nothing to remark");
+}
+
 void make_clean(struct made *h, unsigned cards)
 {
     make_line(h, cards, EACH_ITS_OWN);

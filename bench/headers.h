@@ -23,6 +23,10 @@ void make_equal(struct made *h, unsigned cards);
 // One streamer and nothing but compasses, whose serials all fall in one chain of the proved store; no broken tie.
 void make_crowded(struct made *h, unsigned cards);
 
+// A line with network cards among its streamers': half of them nodes, observations between these, and their parameters;
+// no broken tie.
+void make_network(struct made *h, unsigned cards);
+
 // As many broken ties as so many cards can have.
 void make_worst(struct made *h, unsigned cards);
 

@@ -121,15 +121,16 @@ enum {
 
 /* Classes of keys, and the kind of key that each has. */
 enum {
-    P294_DATUM = 1,     /* whole */
-    P294_STREAMER = 2,  /* whole */
-    P294_NODE = 3,      /* whole */
-    P294_SERIAL = 4,    /* text: a compass's serial number, compared without trailing blanks */
-    P294_SENSOR = 5,    /* whole */
-    P294_VESSEL = 6,    /* whole */
-    P294_WAYPOINT = 7,  /* pair: vessel and number */
-    P294_VARIATION = 8, /* whole: a point of the variation grid */
-    P294_GRID = 9       /* whole: the variation grid, whose one key is 0 */
+    P294_DATUM = 1,       /* whole */
+    P294_STREAMER = 2,    /* whole */
+    P294_NODE = 3,        /* whole */
+    P294_SERIAL = 4,      /* text: a compass's serial number, compared without trailing blanks */
+    P294_SENSOR = 5,      /* whole */
+    P294_VESSEL = 6,      /* whole */
+    P294_WAYPOINT = 7,    /* pair: vessel and number */
+    P294_VARIATION = 8,   /* whole: a point of the variation grid */
+    P294_GRID = 9,        /* whole: the variation grid, whose one key is 0 */
+    P294_OBSERVATION = 10 /* whole */
 };
 
 /* Kinds of key: a; a and b; the bytes of text. What a kind does not mention is not looked at. */
