@@ -23,7 +23,7 @@ use Rattle.tie_lookup.specs.declared.questions.Defined.the-variants.{Non
 unfoldable pub isClass : ℕ → Bool
 isClass class = leb 1 class && leb class classes
 
--- those of streamers, nodes and motion sensors
+-- those of streamers, nodes, motion sensors and observations
 abbrev pub streamerClass : ℕ
 streamerClass = 2
 
@@ -32,6 +32,9 @@ nodeClass = 3
 
 abbrev pub sensorClass : ℕ
 sensorClass = 5
+
+abbrev pub observationClass : ℕ
+observationClass = 10
 
 -- a key that is offered for a class, a text as the bytes lent beside it: none where the class has keys of another kind
 unfoldable pub keyOffered : ℕ → Key → List ℕ → List ℕ
