@@ -13,7 +13,8 @@
 // With ties the answer to these two is the number of bytes, and there are
 // check N                    the number of broken ties, and a list of N numbers as the check leaves it
 // sum N                      the same with one number for the whole list
-// find CLASS KEY             what the header says of a key: whole N, pair N M, text |bytes|; or streamer, node or motion and N
+// find CLASS KEY             what the header says of a key: whole N, pair N M, text |bytes|; or streamer, node, motion or
+//                            observation and N
 #include "../../second/ties.h"
 
 #include <stdio.h>
@@ -384,7 +385,7 @@ static int key_in(struct part s, struct key *key, struct bytes *text)
 static int question_in(struct part s, uint64_t *class, struct key *key, struct bytes *text)
 {
     struct part name = word(s), rest = next(s);
-    *class = is(name, "streamer") ? 2 : is(name, "node") ? 3 : is(name, "motion") ? 5 : 0;
+    *class = is(name, "streamer") ? 2 : is(name, "node") ? 3 : is(name, "motion") ? 5 : is(name, "observation") ? 10 : 0;
     if (*class == 0)
         return number_in(name, class) && key_in(rest, key, text);
     memset(key, 0, sizeof *key);

@@ -541,9 +541,9 @@ static void print_byte(uint8_t b)
 
 static void print_question(const struct question *q)
 {
-    static const char *const named[] = {[2] = "streamer", [3] = "node", [5] = "motion"};
+    static const char *const named[CLASSES + 1] = {[2] = "streamer", [3] = "node", [5] = "motion", [10] = "observation"};
     printf("find ");
-    if (q->key.kind == KEY_WHOLE && q->class <= 5 && named[q->class] && q->key.first % 2 == 0) {
+    if (q->key.kind == KEY_WHOLE && q->class <= CLASSES && named[q->class] && q->key.first % 2 == 0) {
         printf("%s %lld\n", named[q->class], (long long)q->key.first);
         return;
     }

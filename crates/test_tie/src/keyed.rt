@@ -5,6 +5,7 @@ use test_script::Signed;
 use test_script::headers;
 use test_script::say;
 use tie_lookup::Node;
+use tie_lookup::Observation;
 use tie_lookup::Sensor;
 use tie_lookup::Streamer;
 use tie_lookup::questions::Defined;
@@ -81,13 +82,14 @@ fn find_by(args: &[u8], header: &[u8]) -> Defined {
     )
 }
 
-// The same, or streamer, node or motion and a number.
+// The same, or streamer, node, motion or observation and a number.
 pub fn find(args: &[u8], header: &[u8]) -> Defined {
     let n = whole_in(test_script::next(args));
     match test_script::letter(args) {
         b's' => tie_lookup::find_streamer(header, Streamer(n)),
         b'n' => tie_lookup::find_node(header, Node(n)),
         b'm' => tie_lookup::find_sensor(header, Sensor(n)),
+        b'o' => tie_lookup::find_observation(header, Observation(n)),
         _ => find_by(args, header),
     }
 }
