@@ -66,6 +66,12 @@ module _ (p : ℕ → Bool) where
   count-none zero h = refl
   count-none (suc n) h = rw (count-none n (λ i l. h i (le-step l)), h n (lt-suc-self n))
 
+  -- where all pass, the count is that of the numbers
+  pub count-all : (n : ℕ) → ((i : ℕ) → i < n → p i ≡ true) → count p n ≡ n
+  unfolding count
+  count-all zero h = refl
+  count-all (suc n) h = rw (count-all n (λ i l. h i (le-step l)), h n (lt-suc-self n)) (omega arith)
+
   -- where the count is 0, all fail
   pub none-pass : (n : ℕ) → count p n ≡ 0 → (i : ℕ) → i < n → p i ≡ false
   none-pass n e i h = go (p i) refl

@@ -113,3 +113,15 @@ first-same p q n h = elim (decLt (first q n) n) [
       let end : first q n ≡ n = omega (arith, first-le q n) in
       first-none p n (λ j k. h j k ∙ first-below q n j (omega arith)) ∙ sym end
 ]
+
+-- where the number e passes, or nothing comes from e on, the first below e is the first
+pub first-cut : (p : ℕ → Bool) (e n : ℕ) → e ≤ n → (e < n → p e ≡ true) → first p n ≡ first p e
+first-cut p e n h stop = elim (decLt (first p e) e) [
+  | yes l ↦ first-unique p n (first p e) (omega arith) (first-passes p e l) (first-below p e)
+  | no l ↦
+      let end : first p e ≡ e = omega (arith, first-le p e) in
+      elim (decLt e n) [
+        | yes m ↦ first-unique p n e m (stop m) (λ j k. first-below p e j (omega arith)) ∙ sym end
+        | no m ↦ let same : n ≡ e = omega arith in ap (first p) same
+      ]
+]

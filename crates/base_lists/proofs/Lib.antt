@@ -8,3 +8,4 @@ pub mod Laying
 pub mod Moving
 pub mod Parting
 pub mod Rising
+pub mod Taking

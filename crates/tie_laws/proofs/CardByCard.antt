@@ -53,12 +53,14 @@ unfolding flatMap
 flatMap-same f g [] h = refl
 flatMap-same f g (x ∷ l) h = rw (h x, flatMap-same f g l h)
 
-map-flatMap {ℓ} : {A B C : Type ℓ} (g : B → C) (f : A → List B) (l : List A) → map g (flatMap f l) ≡ flatMap (λ a. map g (f a)) l
+-- the images of what was made
+pub map-flatMap {ℓ} : {A B C : Type ℓ} (g : B → C) (f : A → List B) (l : List A) → map g (flatMap f l) ≡ flatMap (λ a. map g (f a)) l
 unfolding flatMap
 map-flatMap g f [] = refl
 map-flatMap g f (x ∷ l) = rw (map-append, map-flatMap g f l)
 
-map-same {ℓ κ} : {A : Type ℓ} {B : Type κ} (f g : A → B) (l : List A) → ((a : A) → List·Memᴰ a l → f a ≡ g a) → map f l ≡ map g l
+-- images under maps that agree on every member
+pub map-same {ℓ κ} : {A : Type ℓ} {B : Type κ} (f g : A → B) (l : List A) → ((a : A) → List·Memᴰ a l → f a ≡ g a) → map f l ≡ map g l
 map-same f g [] h = refl
 map-same f g (x ∷ l) h = rw (h x (List·Memᴰ·head refl), map-same f g l (λ a m. h a (List·Memᴰ·tail m)))
 

@@ -4,6 +4,7 @@ pub mod Table
 pub mod Sites
 pub mod Complete
 pub mod Places
+pub mod Untied
 pub mod Moved
 pub mod Misplaced
 pub mod Rearranged
@@ -12,6 +13,7 @@ pub mod Counts
 pub mod Readings
 pub mod Shapes
 pub mod CardByCard
+pub mod Taken
 pub mod Collected
 pub mod ExampleCards
 pub mod ExampleSteps

@@ -26,7 +26,7 @@ unfolding tieColumns kept upTo canTie about ties statesCount statesOwn
 all-columns = refl
 
 -- a test that nothing passes keeps nothing
-none-kept : (p : ℕ → Bool) → ((x : ℕ) → p x ≡ false) → (l : List ℕ) → kept p l ≡ []
+pub none-kept : (p : ℕ → Bool) → ((x : ℕ) → p x ≡ false) → (l : List ℕ) → kept p l ≡ []
 unfolding kept
 none-kept p h [] = refl
 none-kept p h (x ∷ l) = rw (h x) (none-kept p h l)
