@@ -81,15 +81,15 @@ module _ (stays : ℕ → Bool) where
   below-all n i l t = omega (arith, count-hit stays i t, count-mono stays (i + 1) n (omega arith))
 
   -- a number that stays goes to the place that has as many before it as stay before the number
-  abbrev pub closed-up : (n : ℕ) → Placed stays n (count stays n)
-  closed-up n = record {
+  abbrev pub closed-up : {n m : ℕ} → m ≡ count stays n → Placed stays n m
+  closed-up {n} e = record {
     to = count stays;
     from = taker n;
-    to-below = below-all n;
-    from-below = λ j l. takes n j l .below;
-    from-stays = λ j l. takes n j l .passes;
+    to-below = λ i l t. omega (arith, e, below-all n i l t);
+    from-below = λ j l. takes n j (omega arith) .below;
+    from-stays = λ j l. takes n j (omega arith) .passes;
     from-to = taken-back n;
-    to-from = λ j l. takes n j l .place;
+    to-from = λ j l. takes n j (omega arith) .place;
   }
 
   -- lists made of the places, one after the other, are those made of the numbers, if the others make nothing

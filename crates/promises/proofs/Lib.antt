@@ -1,4 +1,5 @@
 pub mod Header
 pub mod Cards
 pub mod Lists
+pub mod Taken
 pub mod Promises

@@ -22,7 +22,7 @@ use Rattle.tie_rules.specs.Faults.{broken, faults, entrySize, entryFor, entryOf
 use Rattle.tie_check.specs.declared.Ties.the-variants.{Found}
 use Rattle.tie_check.specs.Answer.{answerFor, listFor}
 use Rattle.tie_laws.proofs.Complete as complete
-use Rattle.tie_laws.proofs.Moved.{entry-moved}
+use Rattle.tie_laws.proofs.Moved.{reordered, entry-moved}
 use Rattle.tie_laws.proofs.Rearranged.{rearranged-alike}
 use Rattle.promises.specs.Words.{listOf, opens, Moved}
 
@@ -83,7 +83,7 @@ moved h h′ a m =
     sym (length-map (faults h′) (entryOf h′)) ∙ r .1 .as-many ∙ length-map (faults h) (entryOf h) in (
       r .0,
       ap₂ answerFor (r .0 ∙ sym a) same,
-      entry-moved h h′ (record { order = m .order; same-length = m .same-length; same-card = m .same-card }),
+      λ c column kind vessel l. entry-moved h h′ (reordered h h′ (m .order) (m .same-length) (m .same-card)) c column kind vessel l refl,
     )
   where
     -- the cards before the end of the block are opening cards

@@ -1,14 +1,15 @@
 -- What is promised of the product, in the order of its three demands: total, exact, complete. Each promise is a law about what the
 -- functions answer and leave, for every input; the contracts in src/ say that they answer and leave just this. A reader has to
 -- believe the definitions that are named here, each in the specs/ of its crate, and nothing else.
-use Prim.Native.Nat.{ℕ, _+_, _*_, _/_, _≤_, _<_, min}
+use Prim.Native.Nat.{ℕ, _+_, _*_, _-_, _/_, _≤_, _<_, min}
 use mathlib.Core.Path.{_≡_}
 use mathlib.Core.Bool.{Bool, true, false}
 use mathlib.Core.Logic.{_↔_}
-use mathlib.Core.List.{List, [], _∷_, _++_, map, List·Memᴰ}
-use lib.ListN.{length, getD, replicate}
+use mathlib.Core.List.{List, [], _∷_, _++_, map, flatMap, List·Memᴰ}
+use lib.ListN.{length, getD, drop, replicate}
 use Rattle.base_refusal.specs.declared.Refusal.{Refusal}
 use Rattle.base_refusal.specs.Refusals.{refusal}
+use Rattle.base_lists.specs.Count.{count}
 use Rattle.base_lists.specs.Parts.{part}
 use Rattle.base_value.specs.declared.Value.{Value}
 use Rattle.base_value.specs.declared.Value.the-variants.{Absent, Text}
@@ -50,10 +51,11 @@ use Rattle.tie_lookup.specs.questions.Questions.{isClass, keyOffered, definedBy
 use Rattle.crew_answer.specs.Answer.{answerTo}
 use Rattle.crew_answer.specs.lines.Text.{bytes, newline}
 use Rattle.promises.specs.Header.{headerRows}
-use Rattle.promises.specs.Words.{putAnswer, putCard, textAnswer, textCard, AlikeOutside, listOf, Before, Moved}
+use Rattle.promises.specs.Words.{putAnswer, putCard, textAnswer, textCard, AlikeOutside, listOf, Before, Moved, Skipped, without, newNumber, movedDown}
 use Rattle.promises.proofs.Header as header
 use Rattle.promises.proofs.Cards as cards
 use Rattle.promises.proofs.Lists as lists
+use Rattle.promises.proofs.Taken as taken
 use Rattle.card_laws.proofs.exactly.Fields as fields
 use Rattle.card_laws.proofs.exactly.Entries as puts
 use Rattle.card_laws.proofs.exactly.Cards as whole-cards
@@ -228,6 +230,40 @@ pub moved : (h h′ : List ℕ) → refusalOf h ≡ Accepted → (m : Moved h h�
     → List·Memᴰ ((c + 1) ∷ column ∷ kind ∷ vessel ∷ []) (listOf h)
     ↔ List·Memᴰ ((m .order .to c + 1) ∷ column ∷ kind ∷ vessel ∷ []) (listOf h′))
 moved = lists.moved
+
+-- A reader may skip passed cards and comments. `away` says which of them are taken away from an accepted header, by their numbers: what
+-- remains is accepted, the same is broken on the cards that stay and nothing was on the others, the check answers the same number, and
+-- its list is that of the whole with only the card numbers moved down, each by as many cards as are taken away before it.
+
+module _ (away : ℕ → Bool) (h : List ℕ) where
+  pub cards-left : cardsIn (without away h) ≡ cardsIn h - count away (cardsIn h)
+  cards-left = taken.taken-cards away h
+
+  pub card-stays : (c : ℕ) → c < cardsIn h → away c ≡ false → cardAt (without away h) (newNumber away c) ≡ cardAt h c
+  card-stays = taken.taken-card away h
+
+  module _ (s : Skipped away h) (a : refusalOf h ≡ Accepted) where
+    pub still-accepted : refusalOf (without away h) ≡ Accepted
+    still-accepted = taken.taken-accepted away h s a
+
+    pub broken-as-before : (c column kind : ℕ) → c < cardsIn h → away c ≡ false
+        → broken (without away h) (newNumber away c) column kind ≡ broken h c column kind
+    broken-as-before = taken.taken-broken away h s
+
+    pub none-taken : (c column kind : ℕ) → c < cardsIn h → away c ≡ true → broken h c column kind ≡ false
+    none-taken = taken.away-unbroken away h s
+
+    pub same-number : answerFor (refusalOf (without away h)) (length (faults (without away h))) ≡ answerFor (refusalOf h) (length (faults h))
+    same-number = taken.taken-number away h s a
+
+    pub list-moved-down : listOf (without away h) ≡ map (movedDown away) (listOf h)
+    list-moved-down = taken.taken-list away h s
+
+    -- given room for all, the check leaves it in the lent list, and the rest of that as it was
+    pub check-moved-down : (l : List ℕ) → entrySize * length (listOf h) ≤ length l
+        → listFor (refusalOf (without away h)) l (entries (without away h))
+        ≡ flatMap (movedDown away) (listOf h) ++ drop (entrySize * length (listOf h)) l
+    check-moved-down = taken.taken-check away h s a
 
 -- A question about a key is answered by its definitions: the header's refusal first, then 13 for a class that there is not, then none,
 -- the place of the only one, or how many there are.

@@ -1,15 +1,21 @@
--- The words in which the promises speak of cards that were written, of lists of faults, and of cards that change places.
-use Prim.Native.Nat.{ℕ, _-_, _<_}
+-- The words in which the promises speak of cards that were written, of lists of faults, and of cards that change places or are taken
+-- away.
+use Prim.Native.Nat.{ℕ, _+_, _-_, _<_}
 use mathlib.Core.Path.{_≡_}
-use mathlib.Core.Bool.{Bool, true}
+use mathlib.Core.Bool.{Bool, true, false, not, _||_}
 use mathlib.Core.Logic.{_⊎_}
-use mathlib.Core.List.{List, map}
+use mathlib.Core.List.{List, [], _∷_, map, flatMap}
 use lib.Dec.{leb}
 use lib.ListN.{length, getD, take, drop}
-use Rattle.base_lists.specs.Count.{Rearranged}
+use Rattle.base_lists.specs.Count.{count, Rearranged}
+use Rattle.base_lists.specs.Parts.{kept, upTo, alike}
 use Rattle.base_value.specs.declared.Value.{Value}
 use Rattle.format_layout.specs.declared.Field.{Field}
+use Rattle.format_layout.specs.Shape.{bytes}
 use Rattle.format_layout.specs.Names.{H00X9}
+use Rattle.format_code.specs.declared.Code.{Code}
+use Rattle.format_code.specs.declared.Code.the-variants as code
+use Rattle.format_code.specs.Codes.{codeOf}
 use Rattle.card_put.specs.declared.Entered.{Entered}
 use Rattle.card_put.specs.Putting.{answerOf, leftBy, puttingOf, puttingTextOf}
 use Rattle.header_check.specs.forms.Cards.{cardAt, cardsIn, layoutOf}
@@ -56,3 +62,29 @@ pub record Moved (h h′ : List ℕ) : Type 0 where
   pub same-length : length h′ ≡ length h
   pub same-card : (c : ℕ) → c < cardsIn h → cardAt h′ (order .to c) ≡ cardAt h c
   pub block-stays : (c : ℕ) → c < cardsIn h → opens (cardAt h c) ≡ true → order .to c ≡ c
+
+-- a card that a reader may skip: its code is passed, or it is a comment, C0001 or C0002
+abbrev pub isPassed : Code → Bool
+isPassed code.Passed = true
+isPassed code.Unknown = false
+isPassed (code.Read k) = false
+
+unfoldable pub maySkip : List ℕ → Bool
+maySkip s = isPassed (codeOf (take 5 s)) || (alike (take 5 s) (bytes "C0001") || alike (take 5 s) (bytes "C0002"))
+
+-- a choice of cards, by their numbers from 0, among those that a reader may skip: none, some or all of them
+abbrev pub Skipped : (ℕ → Bool) → List ℕ → Type 0
+Skipped away h = (c : ℕ) → c < cardsIn h → away c ≡ true → maySkip (cardAt h c) ≡ true
+
+-- h with these cards taken away: the others, one after the other
+unfoldable pub without : (ℕ → Bool) → List ℕ → List ℕ
+without away h = flatMap (cardAt h) (kept (λ c. not (away c)) (upTo (cardsIn h)))
+
+-- the new number of a card, from 0: moved down by as many as are taken away before it
+unfoldable pub newNumber : (ℕ → Bool) → ℕ → ℕ
+newNumber away c = c - count away c
+
+-- an entry of the list with the number of its card, from 1, moved down, and else as it was
+unfoldable pub movedDown : (ℕ → Bool) → List ℕ → List ℕ
+movedDown away [] = []
+movedDown away (card ∷ rest) = (newNumber away (card - 1) + 1) ∷ rest
