@@ -1,5 +1,5 @@
-// The list of broken ties and the question about a key: the library against the second implementation, on what
-// tests/second/tiecases.c makes.
+// The list of broken ties, also with cards taken away that a reader may skip, and the question about a key: the library
+// against the second implementation, on what tests/second/tiecases.c makes.
 #define main tiecases_main
 #include "../second/tiecases.c"
 #undef main
@@ -47,6 +47,65 @@ static void hold_question(struct question *q, unsigned turn, size_t size)
     hold(&in, r.number ? refused(r) : should, said, &l);
 }
 
+// Cards that a reader may skip: passed ones, C0001 and C0002. How often none, some and all of them were taken away, and how
+// many entries stood behind one that was.
+static unsigned taken[3], moved;
+
+static int may_skip(const uint8_t *card)
+{
+    int code = code_of(card);
+    return code == CODE_PASSED || code == COMMENT || code == COMMENT + 1;
+}
+
+// More of them, anywhere behind the opening block.
+static void add_skipped(void)
+{
+    static const char *const codes[] = {"C0001", "C0002", "H0210", "H23@1", "H6101"};
+    unsigned first = opening();
+    for (unsigned k = below(8); k && cards < MOST_CARDS; k--) {
+        write_text(new_card(codes[below(5)], 1), 7, "1");
+        swap_cards(cards - 1, first + below(cards - first));
+    }
+}
+
+// Without them the list is that of the whole, the card numbers moved down.
+static void hold_taken(unsigned turn)
+{
+    static uint8_t left[MOST_CARDS][CARD_SIZE];
+    static uint32_t should[MOST_NUMBERS], is[MOST_NUMBERS];
+    unsigned down[MOST_CARDS], skipped = 0, gone = 0, share = 50 * below(3);
+    size_t faults;
+    add_skipped();
+    for (size_t i = 0; i < MOST_NUMBERS; i++)
+        should[i] = is[i] = UNTOUCHED;
+    if (check_ties(header[0], cards * CARD_SIZE, should, MOST_NUMBERS, &faults).number)
+        return;
+    for (unsigned i = 0; i < cards; i++) {
+        int away = may_skip(header[i]) && (skipped++, percent(share));
+        down[i] = gone;
+        memcpy(left[i - gone], header[i], CARD_SIZE);
+        gone += (unsigned)away;
+    }
+    for (uint32_t *e = should; e < should + faults * ENTRY_SIZE; e += ENTRY_SIZE) {
+        moved += down[e[0] - 1] > 0;
+        e[0] -= down[e[0] - 1];
+    }
+    taken[gone == 0 ? 0 : gone < skipped ? 1 : 2]++;
+    struct input in = {"check of what is left", left[0], (cards - gone) * CARD_SIZE, header[0], cards * CARD_SIZE, {turn}};
+    struct lent l = lend(turn);
+    int64_t said = p294_check(left[0], in.size, is, MOST_NUMBERS, l.numbers, l.room);
+    hold(&in, (struct expected){(int64_t)faults, {0, 0, 0}}, said, &l);
+    hold_list(&in, should, is, MOST_NUMBERS);
+}
+
+static void taken_histogram(void)
+{
+    printf("taken away: none %u, some %u, all %u; entries moved down %u\n", taken[0], taken[1], taken[2], moved);
+    for (unsigned k = 0; k < 3; k++)
+        demand(taken[k] > 0, "taken away", k, 0, 0);
+    demand(moved > 0, "entry moved down", 0, 0, 0);
+}
+
 int compare_ties(uint64_t seed, unsigned long wanted)
 {
     state = seed;
@@ -57,9 +116,11 @@ int compare_ties(uint64_t seed, unsigned long wanted)
             struct question q = make_question();
             hold_question(&q, turn * QUESTIONS + k, cards * CARD_SIZE);
         }
+        hold_taken(turn);
     }
     fault_histogram();
     room_histogram();
     question_histogram();
+    taken_histogram();
     return missing;
 }
