@@ -5,6 +5,7 @@
 #define _GNU_SOURCE
 #include "../include/p294.h"
 #include "headers.h"
+#include "logger.h"
 
 #include <stdio.h>
 #include <stdlib.h>
@@ -15,7 +16,7 @@
 enum { LIBRARY, SECOND, PASS, RUNNERS };
 enum { MOST_ROWS = 40, MOST_NUMBERS = MOST_FAULTS * ENTRY_SIZE, SOME_CARDS = 16, CARD_CALLS = 512 };
 
-enum operation { CHECK, KEY, READ, PUT };
+enum operation { CHECK, KEY, READ, PUT, LOG };
 
 // What is timed: an operation on a header, or on some cards of one code in turn; its least time by each, in ns a call.
 struct row {
@@ -35,6 +36,7 @@ static unsigned count;
 
 static uint32_t list[MOST_NUMBERS], second_list[MOST_NUMBERS];
 static int64_t numbers[P294_NUMBERS];
+static uint8_t logged[LOGGED_CARDS][CARD_SIZE], second_logged[LOGGED_CARDS][CARD_SIZE];
 static volatile int64_t sink;
 
 static void fail(const struct row *r, const char *what)
@@ -70,6 +72,7 @@ static void by_library(struct row *r)
             sink = p294_put(card, CARD_SIZE, r->field, 0, r->kind, number_at(k), r->kind == VALUE_DECIMAL, 0, numbers,
                             P294_NUMBERS);
             break;
+        case LOG: sink = log_by_library(logged); break;
         default: sink = ask_library(r);
         }
     }
@@ -95,6 +98,7 @@ static void by_second(struct row *r)
             v.units = number_at(k);
             sink = put_value(card, CARD_SIZE, r->field, 0, &v).number;
             break;
+        case LOG: sink = log_by_second(second_logged); break;
         default: sink = (int64_t)ask_second(r).number;
         }
     }
@@ -112,7 +116,10 @@ static __attribute__((noinline)) int pass_over(const uint8_t *bytes, size_t size
 static void by_pass(struct row *r)
 {
     for (size_t k = 0; k < r->calls; k++)
-        sink = r->header ? pass_over(r->header->at, r->header->size) : pass_over(r->cards[k % SOME_CARDS], CARD_SIZE);
+        if (r->operation == LOG)
+            sink = pass_over(logged[0], sizeof logged);
+        else
+            sink = r->header ? pass_over(r->header->at, r->header->size) : pass_over(r->cards[k % SOME_CARDS], CARD_SIZE);
 }
 
 // The same answers by both.
@@ -158,6 +165,16 @@ static void hold_put(struct row *r)
     }
 }
 
+static void hold_log(struct row *r)
+{
+    open_cards(logged);
+    open_cards(second_logged);
+    if (log_by_library(logged) != 0 || log_by_second(second_logged) != 0)
+        fail(r, "a value is not put");
+    if (memcmp(logged, second_logged, sizeof logged) != 0)
+        fail(r, "the cards differ");
+}
+
 static void hold_key(struct row *r)
 {
     struct defined d = ask_second(r);
@@ -174,6 +191,8 @@ static void hold(struct row *r)
         hold_read(r, r->cards[k]);
     if (r->operation == PUT)
         hold_put(r);
+    if (r->operation == LOG)
+        hold_log(r);
     if (r->operation == KEY)
         hold_key(r);
 }
@@ -239,6 +258,7 @@ static void card_rows(const struct made *h)
     card_row("field read: angle", READ, h, "H0101", 2, VALUE_ANGLE);
     card_row("number put: whole", PUT, h, "H2210", 2, VALUE_WHOLE);
     card_row("number put: decimal", PUT, h, "H2310", 2, VALUE_DECIMAL);
+    new_row("a logger's start: 5,000 puts over 300 cards", LOG);
 }
 
 // Headers of growing size.
@@ -410,6 +430,11 @@ static void question_to_library(void)
     sink = ask_library(asked);
 }
 
+static void log_to_library(void)
+{
+    sink = log_by_library(logged);
+}
+
 // The bytes from the top of a painted stack down to the lowest that a call wrote.
 static size_t depth_of(void (*call)(void))
 {
@@ -440,6 +465,8 @@ static void print_stack(void)
     printf("| call | bytes |\n|---|---:|\n");
     printf("| p294_check, 800 cards, as many faults as can be | %zu |\n", depth_of(check_by_library) - without);
     printf("| p294_key, 800 cards | %zu |\n", depth_of(question_to_library) - without);
+    printf("| 5,000 calls of p294_put and p294_put_text, every kind of value, and the loop that makes them | %zu |\n",
+           depth_of(log_to_library) - without);
     printf("| the second implementation's check | %zu |\n", depth_of(check_by_second) - without);
 }
 
