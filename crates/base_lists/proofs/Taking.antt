@@ -3,7 +3,7 @@
 use mathlib.Core.Path.{_≡_, refl, sym, _∙_, ap}
 use mathlib.Core.Bool.{Bool, true, false, not}
 use mathlib.Core.List.{List, [], _∷_, _++_, flatMap, append-nil}
-use Prim.Native.Nat.{ℕ, zero, suc, _+_, _*_, _-_, _≤_, _<_}
+use Prim.Native.Nat.{ℕ, zero, suc, _+_, _*_, _≤_, _<_}
 use native.Mathlib.Nat.{le-step, lt-suc-self, mul-zero, mul-one, mul-add, add-zero}
 use native.Mathlib.Numerals.{add-one}
 use native.Mathlib.Decide.{ℕ-discrete}
@@ -21,7 +21,7 @@ use Rattle.base_lists.proofs.Entries.{entries-append, entries-more}
 use Rattle.base_lists.proofs.Moving.{Placed}
 use Rattle.base_lists.proofs.Parting.{part-left, part-right}
 
--- as many pass a test as do not fail it
+-- those that fail a test and those that pass it are all
 pub count-not : (p : ℕ → Bool) (n : ℕ) → count (λ i. not (p i)) n + count p n ≡ n
 unfolding count
 count-not p zero = refl
@@ -36,6 +36,7 @@ module _ (stays : ℕ → Bool) where
   abbrev pub taker : ℕ → ℕ → ℕ
   taker n j = first (λ i. ltb j (count stays (i + 1))) n
 
+  -- it stays, and has that many before it that do
   pub record Takes (n j : ℕ) : Type 0 where
     pub below : taker n j < n
     pub passes : stays (taker n j) ≡ true
@@ -72,11 +73,13 @@ module _ (stays : ℕ → Bool) where
       go true e = refl
       go false e = absurd (omega (arith, most, more, count-miss stays (taker n j) e))
 
+  -- a number that stays takes the place that it goes to
   pub taken-back : (n i : ℕ) → i < n → stays i ≡ true → taker n (count stays i) ≡ i
   taken-back n i l t = first-unique (λ k. ltb (count stays i) (count stays (k + 1))) n i l
       (lt-ltb (count stays i) (count stays (i + 1)) (omega (arith, count-hit stays i t)))
       (λ k m. le-ltb (count stays i) (count stays (k + 1)) (count-mono stays (k + 1) i (omega arith)))
 
+  -- before it come fewer that stay than there are
   pub below-all : (n i : ℕ) → i < n → stays i ≡ true → count stays i < count stays n
   below-all n i l t = omega (arith, count-hit stays i t, count-mono stays (i + 1) n (omega arith))
 
@@ -118,6 +121,7 @@ module _ (stays : ℕ → Bool) where
     one-more true n e = rw (append-nil, mul-one) e
     one-more false n e = sym (mul-zero size)
 
+    -- they are as many as stay
     pub length-made : (n : ℕ) → ((i : ℕ) → i < n → length (f i) ≡ size) → length (made n) ≡ size * count stays n
     unfolding count upTo kept flatMap
     length-made zero sized = sym (mul-zero size)

@@ -1,18 +1,17 @@
 -- Cards that a reader may skip are taken away: what remains is accepted, with the faults of the whole.
-use Prim.Native.Nat.{ℕ, _+_, _*_, _-_, _/_, _%_, _≤_, _<_}
+use Prim.Native.Nat.{ℕ, _+_, _*_, _-_, _≤_, _<_}
 use native.Mathlib.Decide.{decLt}
 use native.Mathlib.Omega.{arith}
 use mathlib.Core.Path.{_≡_, refl, sym, ap, ap₂, _∙_}
-use mathlib.Core.Bool.{Bool, true, false, not, _||_, true≢false, false≢true}
+use mathlib.Core.Bool.{Bool, true, false, not, _||_, false≢true}
 use mathlib.Core.Logic.{_⊎_, inl, inr, ⊎-elim}
 use mathlib.Core.List.{List, [], _∷_, _++_, map, flatMap}
 use lib.ListN.{length, take, drop, length-map}
-use borrow.Author.Tests.{not-true, not-false}
+use borrow.Author.Tests.{not-false}
 use Rattle.base_lists.specs.Count.{count}
-use Rattle.base_lists.specs.Parts.{kept, upTo, alike}
-use Rattle.base_lists.specs.Laid.{laid}
+use Rattle.base_lists.specs.Parts.{alike}
 use Rattle.base_lists.proofs.Comparing.{alike-equal}
-use Rattle.base_lists.proofs.Counting.{count-all, count-none}
+use Rattle.base_lists.proofs.Counting.{count-all}
 use Rattle.base_lists.proofs.Laying.{laid-whole}
 use Rattle.base_lists.proofs.Moving.{Placed}
 use Rattle.base_lists.proofs.Taking.{count-not, closed-up, length-made, part-made}

@@ -2,8 +2,8 @@
 use Prim.Native.Nat.{ℕ, _<_}
 use native.Mathlib.Omega.{arith}
 use mathlib.Core.Path.{_≡_, refl, sym, ap, _∙_}
-use mathlib.Core.Bool.{Bool, true, false, cond, _&&_, _||_, true≢false}
-use mathlib.Core.List.{List, [], List·Memᴰ, List·Memᴰ·not-nil}
+use mathlib.Core.Bool.{Bool, true, false, cond, _&&_, _||_}
+use mathlib.Core.List.{List, [], List·Memᴰ·not-nil}
 use lib.Dec.{eqb}
 use lib.ListN.{length}
 use Rattle.base_lists.specs.Parts.{kept, upTo}
@@ -12,7 +12,7 @@ use Rattle.format_layout.specs.Layouts.{layoutAt, fieldsOf}
 use Rattle.format_layout.specs.Names.{H0101}
 use Rattle.card_field.specs.judging.Fields.{spellingOf}
 use Rattle.header_check.specs.forms.Cards.{layoutOf, unread}
-use Rattle.tie_rules.specs.Ties.{Role, Tie, noTie, defines, refers, ties, lineFor, about, statesCount, statesOwn, canTie, tieColumns}
+use Rattle.tie_rules.specs.Ties.{Role, Tie, defines, refers, ties, lineFor, about, statesCount, statesOwn, canTie, tieColumns}
 use Rattle.tie_rules.specs.Keys.{isNone, holdsKey}
 use Rattle.tie_rules.specs.Faults.{brokenOn}
 use Rattle.tie_rules.proofs.columns.Tied.{idle, not-among, no-line-in, or-left, or-right}
