@@ -271,18 +271,19 @@ struct grown {
     struct row *rows[SIZES];
 };
 static struct grown grown[] = {{"check: clean", make_clean, {0}},
-                               {"check: as many faults as can be", make_worst, {0}},
+                               {"check: as many broken ties as can be", make_worst, {0}},
+                               {"check: as many faults as can be", make_left, {0}},
                                {"check: one node and serial throughout", make_equal, {0}},
                                {"check: serials of one chain", make_crowded, {0}}};
-enum { CLEAN, WORST, EQUAL, CROWDED, GROWN };
+enum { CLEAN, WORST, LEFT, EQUAL, CROWDED, GROWN };
 
-// The faults that a header of a kind and a size has to have: each compass has two, its correction one.
+// The faults that a header of a kind and a size has to have: with one serial throughout a compass has two, its correction one.
 static int64_t faults_of(unsigned kind, const struct made *h)
 {
     int64_t cards = (int64_t)(h->size / CARD_SIZE), compasses = 0;
     for (const uint8_t *card = h->at; card < h->at + h->size; card += CARD_SIZE)
         compasses += memcmp(card, "H2310", CODE_SIZE) == 0;
-    return kind == WORST ? 2 + 5 * (cards - 9) : kind == EQUAL ? 3 * compasses : 0;
+    return kind == WORST ? 2 + 5 * (cards - 9) : kind == LEFT ? 8 + 18 * (cards - 9) : kind == EQUAL ? 3 * compasses : 0;
 }
 
 static void make_rows(void)

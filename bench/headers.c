@@ -303,3 +303,22 @@ void make_worst(struct made *h, unsigned cards)
         left(card, 36, " 214 A17");
     }
 }
+
+void make_left(struct made *h, unsigned cards)
+{
+    h->size = 0;
+    for (char code[] = "H0000"; code[4] <= '7'; code[4]++)
+        new_card(h, code);
+    left(h->at, 46, "1");
+    left(h->at + 3 * CARD_SIZE, 78, "1");
+    uint8_t *card = new_card(h, "H0028");
+    left(card, 30, "1 1");
+    left(card, 59, "1      1   1");
+    left(card, 79, "1");
+    while (h->size < cards * (size_t)CARD_SIZE) {
+        card = new_card(h, "H2310");
+        left(card, 7, "A17     1");
+        for (unsigned i = 0; i < 8; i++)
+            left(card, 21 + 7 * i, "1  1");
+    }
+}

@@ -27,7 +27,8 @@ void make_crowded(struct made *h, unsigned cards);
 // no broken tie.
 void make_network(struct made *h, unsigned cards);
 
-// As many broken ties as so many cards can have.
+// As many broken ties as so many cards can have; as many faults, nearly all of them misplaced numbers.
 void make_worst(struct made *h, unsigned cards);
+void make_left(struct made *h, unsigned cards);
 
 #endif

@@ -21,7 +21,8 @@ static const char *kinds[] = {"",
                               "is defined more than once",
                               "refers to what is defined more than once",
                               "has a vessel digit that contradicts",
-                              "states a count that differs from the number found"};
+                              "states a count that differs from the number found",
+                              "has a number with blanks behind it"};
 
 /* A code with any digit where the pattern has @. */
 static int has_code(const uint8_t *card, const char *pattern)

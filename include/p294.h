@@ -68,8 +68,8 @@ enum {
 /* Kinds of value, with the numbers that go with each. */
 enum {
     P294_ABSENT = 0,  /* nothing but blanks */
-    P294_WHOLE = 1,   /* the number */
-    P294_DECIMAL = 2, /* units, and how many of their digits stand behind the point: 1.50 is 150 and 2 */
+    P294_WHOLE = 1,   /* the number, 0, and 1 if it is misplaced */
+    P294_DECIMAL = 2, /* units, how many of their digits stand behind the point (1.50 is 150 and 2), 1 if it is misplaced */
     P294_ANGLE = 3,   /* thousandths of a second of arc, below zero for south and west */
     P294_DATE = 4,    /* year, month, day */
     P294_TEXT = 5     /* the text's first and last column on the card; trailing blanks do not belong to it */
@@ -77,7 +77,9 @@ enum {
 
 /* Reads the field with a number. said is the kind of its value, numbers what goes with it. A number that was read is
  * a decimal in an N field, also with no places, and whole in an I field; a coordinate is an angle in form 0 and a decimal
- * in form 1. Refused 1, 2, 4, 5, 13, 10 (form), and then 11, 9, 10 of this field; nothing else of the card is looked at. */
+ * in form 1. A number in an I or N field is misplaced where blanks stand behind it: numbers[2] is then 1. It is 0 for all
+ * other numbers, coordinates too. Refused 1, 2, 4, 5, 13, 10 (form), and then 11, 9, 10 of this field; nothing else of the
+ * card is looked at. */
 int64_t p294_read_field(const uint8_t *card, size_t length, size_t field, size_t form, int64_t *numbers, size_t room);
 
 /* The columns of the text in a field. said is P294_TEXT and numbers are its first and last column, so the text is
@@ -90,9 +92,9 @@ int64_t p294_read_text(const uint8_t *card, size_t length, size_t field, size_t 
 int64_t p294_open(uint8_t *card, size_t length, const uint8_t *code, size_t code_length, int64_t *numbers, size_t room);
 
 /* Puts a value into a field, and changes no column outside it. said is 0. The value is given as numbers like those
- * that p294_read_field gives: kind, then a, b, c. Absent blanks the field. A kind other than 0 to 4 is a text, which no
- * field takes as a value (12). A part of a date that 32 bits do not hold makes it no date (10). Refused 1, 2, 4, 5, 13,
- * 10 (form), 12, 11, 10, 14. */
+ * that p294_read_field gives: kind, then a, b, c. A number is put at the right end of the field, whatever its c. Absent
+ * blanks the field. A kind other than 0 to 4 is a text, which no field takes as a value (12). A part of a date that 32 bits
+ * do not hold makes it no date (10). Refused 1, 2, 4, 5, 13, 10 (form), 12, 11, 10, 14. */
 int64_t p294_put(uint8_t *card, size_t length, size_t field, size_t form, size_t kind, int64_t a, size_t b, size_t c,
                  int64_t *numbers, size_t room);
 
@@ -101,9 +103,9 @@ int64_t p294_put(uint8_t *card, size_t length, size_t field, size_t form, size_t
 int64_t p294_put_text(uint8_t *card, size_t length, size_t field, size_t form, const uint8_t *text, size_t text_length,
                       int64_t *numbers, size_t room);
 
-/* Checks a header. said is the number of all faults between its cards, and list has their entries from its front on, as
+/* Checks a header. said is the number of all faults of its cards, and list has their entries from its front on, as
  * many whole ones as fit: card, column, kind, and the vessel digit in the card's code (P294_NO_VESSEL where it has none),
- * ordered by the first three. The rest of the list stays as it was. list_length counts numbers, not entries; 16000 are
+ * ordered by the first three. The rest of the list stays as it was. list_length counts numbers, not entries; 56984 are
  * enough for every header. Refused 1 to 11, at the first offence. */
 int64_t p294_check(const uint8_t *header, size_t length, uint32_t *list, size_t list_length, int64_t *numbers, size_t room);
 
@@ -116,7 +118,8 @@ enum {
     P294_REDEFINED = 2,    /* a definition whose key is defined in another place too; every such place is listed */
     P294_AMBIGUOUS = 3,    /* a reference whose key has several definitions */
     P294_CONTRADICTED = 4, /* a vessel digit that contradicts */
-    P294_MISCOUNTED = 5    /* a stated count that differs from the number found */
+    P294_MISCOUNTED = 5,   /* a stated count that differs from the number found */
+    P294_MISPLACED = 6     /* a number of an I or N field with blanks behind it, at the field's first column */
 };
 
 /* Classes of keys, and the kind of key that each has. */

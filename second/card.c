@@ -237,12 +237,29 @@ static unsigned read_number(const uint8_t *s, size_t n, int points, struct value
     return 0;
 }
 
+// The same where blanks may follow it: I and N fields.
+static unsigned read_placed(const uint8_t *s, size_t n, int points, struct value *v)
+{
+    size_t end = n;
+    while (s[end - 1] == ' ')
+        end--;
+    v->misplaced = end < n;
+    return read_number(s, end, points, v);
+}
+
 static unsigned read_whole(const uint8_t *s, size_t n, unsigned range, struct value *v)
 {
     v->kind = VALUE_WHOLE;
-    if (read_number(s, n, 0, v))
+    if (read_placed(s, n, 0, v))
         return 9;
     return in_range(range, v->units) ? 0 : 10;
+}
+
+int is_misplaced(const uint8_t *card, const struct field *f)
+{
+    if (f->spelling != SPELL_WHOLE && f->spelling != SPELL_DECIMAL)
+        return 0;
+    return card[f->last - 1] == ' ' && !is_blank(columns_of(card, f), width_of(f));
 }
 
 static uint32_t days_in(uint32_t year, uint32_t month)
@@ -344,11 +361,12 @@ static unsigned read_columns(const uint8_t *card, const struct field *f, unsigne
     const uint8_t *s = columns_of(card, f);
     size_t n = width_of(f);
     v->kind = VALUE_ABSENT;
+    v->misplaced = 0;
     if (is_blank(s, n))
         return 0;
     switch (f->spelling) {
     case SPELL_WHOLE: return read_whole(s, n, f->range, v);
-    case SPELL_DECIMAL: v->kind = VALUE_DECIMAL; return read_number(s, n, 1, v);
+    case SPELL_DECIMAL: v->kind = VALUE_DECIMAL; return read_placed(s, n, 1, v);
     case SPELL_DATE: return read_date(s, v);
     case SPELL_Y:
     case SPELL_X: return form == 0 ? read_angle(s, f->spelling, v) : read_grid(s, f->spelling, v);

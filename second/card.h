@@ -39,6 +39,7 @@ struct value {
     enum value_kind kind;
     int64_t units;             // of a whole number, a decimal, an angle (thousandths of a second)
     uint64_t places;           // of a decimal
+    uint32_t misplaced;        // whether blanks stand behind a whole number or a decimal
     uint32_t year, month, day; // of a date
     uint64_t first, last;      // of a text: its first and last column on the card
 };
@@ -51,6 +52,9 @@ struct refusal {
 // The place of a code in `layouts`, or one of these two.
 enum { CODE_PASSED = -1, CODE_UNKNOWN = -2 };
 int code_of(const uint8_t *code);
+
+// Whether columns hold something and end in a blank: what a number of an I or N field is called misplaced for.
+int is_misplaced(const uint8_t *card, const struct field *f);
 
 // What stands in a field.
 struct refusal read_field(const uint8_t *card, size_t size, uint64_t number, uint64_t form, struct value *value);

@@ -1,5 +1,5 @@
 // The ties between cards: every tie column is read once into a row of a list, every key has one number, and what is defined
-// how often is counted by that number; the rows are then judged in their order.
+// how often is counted by that number; the rows are then judged card by card, with the numbers that are misplaced.
 #include "ties.h"
 
 #include <string.h>
@@ -118,10 +118,13 @@ static unsigned serial_number(const uint64_t *serials, const uint8_t *text, uint
     return i;
 }
 
-// Whether a field of an accepted card is blank: a number stands at the right end, a text at the left.
+// Whether a field is blank: a number may stand anywhere in it.
 static int is_blank(const uint8_t *card, const struct tie_column *c)
 {
-    return card[(c->class == SERIAL ? c->first : c->last) - 1] == ' ';
+    for (unsigned i = c->first; i <= c->last; i++)
+        if (card[i - 1] != ' ')
+            return 0;
+    return 1;
 }
 
 static unsigned key_at(struct ties *t, const uint8_t *card, const struct tie_column *c)
@@ -207,35 +210,51 @@ static uint32_t vessel_of(const uint8_t *card)
     return code[3] == '@' || (code[3] == '#' && code[4] != '#') ? digit_at(card, 4) : NO_VESSEL;
 }
 
-static int same_place(const struct tie *a, const struct tie *b)
+// The kinds of a card's columns, those of its broken ties from the row with number `from` on; the number behind its last row.
+static size_t kinds_on(const struct ties *t, size_t from, uint16_t number, uint8_t kinds[CARD_SIZE + 1])
 {
-    return a->card == b->card && a->column == b->column;
+    for (; from < t->count && t->list[from].card == number; from++)
+        kinds[t->list[from].column] |= (uint8_t)kinds_of(t, &t->list[from]);
+    return from;
+}
+
+// The same with the numbers that are misplaced.
+static void misplaced_on(const uint8_t *card, const struct layout *l, uint8_t kinds[CARD_SIZE + 1])
+{
+    for (unsigned k = 0; k < l->count; k++)
+        if (is_misplaced(card, &l->fields[k]))
+            kinds[l->fields[k].first] |= 1u << MISPLACED;
 }
 
 struct refusal check_ties(const uint8_t *header, size_t size, uint32_t *list, size_t room, size_t *faults)
 {
     struct ties t;
-    size_t n = 0;
+    size_t n = 0, row = 0;
     *faults = 0;
     struct refusal r = check_header(header, size);
     if (r.number)
         return r;
     gather(&t, header, size / CARD_SIZE);
-    for (size_t i = 0; i < t.count; i++) {
-        unsigned kinds = kinds_of(&t, &t.list[i]);
-        while (i + 1 < t.count && same_place(&t.list[i], &t.list[i + 1]))
-            kinds |= kinds_of(&t, &t.list[++i]);
-        for (uint32_t kind = 1; kinds >> kind; kind++) {
-            if (!(kinds >> kind & 1))
-                continue;
-            if (room / ENTRY_SIZE > n) {
-                list[ENTRY_SIZE * n] = t.list[i].card;
-                list[ENTRY_SIZE * n + 1] = t.list[i].column;
-                list[ENTRY_SIZE * n + 2] = kind;
-                list[ENTRY_SIZE * n + 3] = vessel_of(header + (t.list[i].card - 1u) * CARD_SIZE);
+    for (uint16_t number = 1; number <= size / CARD_SIZE; number++) {
+        const uint8_t *card = header + (number - 1u) * CARD_SIZE;
+        uint8_t kinds[CARD_SIZE + 1] = {0};
+        int code = code_of(card);
+        if (code < 0)
+            continue;
+        row = kinds_on(&t, row, number, kinds);
+        misplaced_on(card, &layouts[code], kinds);
+        for (uint32_t column = 1; column <= CARD_SIZE; column++)
+            for (uint32_t kind = 1; kinds[column] >> kind; kind++) {
+                if (!(kinds[column] >> kind & 1))
+                    continue;
+                if (room / ENTRY_SIZE > n) {
+                    list[ENTRY_SIZE * n] = number;
+                    list[ENTRY_SIZE * n + 1] = column;
+                    list[ENTRY_SIZE * n + 2] = kind;
+                    list[ENTRY_SIZE * n + 3] = vessel_of(card);
+                }
+                n++;
             }
-            n++;
-        }
     }
     *faults = n;
     return r;

@@ -10,8 +10,8 @@
 static struct expected value_expected(const struct value *v)
 {
     switch (v->kind) {
-    case VALUE_WHOLE: return (struct expected){P294_WHOLE, {v->units, 0, 0}};
-    case VALUE_DECIMAL: return (struct expected){P294_DECIMAL, {v->units, (int64_t)v->places, 0}};
+    case VALUE_WHOLE: return (struct expected){P294_WHOLE, {v->units, 0, v->misplaced}};
+    case VALUE_DECIMAL: return (struct expected){P294_DECIMAL, {v->units, (int64_t)v->places, v->misplaced}};
     case VALUE_ANGLE: return (struct expected){P294_ANGLE, {v->units, 0, 0}};
     case VALUE_DATE: return (struct expected){P294_DATE, {v->year, v->month, v->day}};
     case VALUE_TEXT: return (struct expected){P294_TEXT, {(int64_t)v->first, (int64_t)v->last, 0}};

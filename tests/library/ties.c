@@ -11,7 +11,7 @@ static void hold_faults(unsigned turn, size_t size)
     static uint32_t all[MOST_NUMBERS], should[MOST_NUMBERS + 8], is[MOST_NUMBERS + 8];
     size_t faults = 0;
     struct refusal r = check_ties(header[0], size, all, MOST_NUMBERS, &faults);
-    size_t room = turn < 2 ? MOST_NUMBERS : room_for(faults);
+    size_t room = turn < 3 ? MOST_NUMBERS : room_for(faults);
     for (size_t i = 0; i < MOST_NUMBERS + 8; i++)
         should[i] = is[i] = UNTOUCHED;
     check_ties(header[0], size, should, room, &faults);

@@ -18,7 +18,7 @@
 enum { MOST_READ = 64080, MOST_ENTRIES = 4000, MOST_TEXT = 80000, PATIENCE = 60 };
 
 // Refusals that a header can get, kinds of fault; from how many buffers on each has to come; one in so many is accepted.
-enum { REFUSALS = 11, FAULTS = 5, ENOUGH = 2000, ACCEPTED = 8 };
+enum { REFUSALS = 11, FAULTS = 6, ENOUGH = 2000, ACCEPTED = 8 };
 
 struct text {
     char at[MOST_TEXT];
@@ -113,7 +113,7 @@ static void make_buffer(uint64_t seed, unsigned turn, struct buffer *b)
     if (kind % 2)
         make_damaged(other, b);
     else
-        make_tied(other, turn == 8 ? 0 : turn == 9 ? 1 : 2, b); // its first two are long: once each
+        make_tied(other, turn == 8 ? 0 : turn == 9 ? 1 : turn == 24 ? 2 : 3, b); // its first three are long: once each
     for (unsigned k = kind == 1 || kind == 2 ? 1 + below(3) : 0; k; k--)
         damage(b);
 }

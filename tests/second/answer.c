@@ -197,6 +197,8 @@ static void say_value(const struct value *v)
     case VALUE_DATE: printf("date %u %u %u", (unsigned)v->year, (unsigned)v->month, (unsigned)v->day); break;
     case VALUE_TEXT: printf("text %llu %llu", (unsigned long long)v->first, (unsigned long long)v->last); break;
     }
+    if (v->misplaced)
+        printf(" misplaced");
 }
 
 static void say_card(struct refusal r, const struct bytes *card)

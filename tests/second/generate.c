@@ -219,6 +219,19 @@ static void right(uint8_t *s, size_t n, const char *text)
     memcpy(s + n - length, text, length);
 }
 
+// Moves what stands in columns to the left, by some of the blanks before it.
+static void push_left(uint8_t *s, size_t n)
+{
+    size_t blanks = 0;
+    while (blanks < n && s[blanks] == ' ')
+        blanks++;
+    if (blanks == 0 || blanks == n)
+        return;
+    size_t by = percent(50) ? blanks : 1 + below((unsigned)blanks);
+    memmove(s, s + by, n - by);
+    memset(s + n - by, ' ', by);
+}
+
 static void good_whole(uint8_t *s, size_t n, unsigned range)
 {
     char text[32];
@@ -294,6 +307,8 @@ static void good_columns(uint8_t *card, const struct field *f, uint64_t form)
         break;
     default: good_text(s, n, f->spelling == SPELL_COMMENT);
     }
+    if ((f->spelling == SPELL_WHOLE || f->spelling == SPELL_DECIMAL) && percent(25))
+        push_left(s, n);
 }
 
 // An angle at the end of what is allowed, or beyond.
@@ -341,6 +356,10 @@ static void bad_columns(uint8_t *card, const struct field *f, uint64_t form)
         }
         if (percent(20)) {
             s[11] = one_of(" NSEWnse0");
+            return;
+        }
+        if (form == 1 && percent(20)) {
+            push_left(s, 11);
             return;
         }
         if (percent(15)) {
@@ -615,7 +634,7 @@ static void print(const struct test *t)
 // The histogram. A refusal is counted apart where it has no column.
 
 static unsigned ends[OPERATIONS][NUMBERS][2];
-static unsigned held[FIELDS], refused_there[FIELDS], entered[FIELDS], opened[LAYOUTS + PASSED], judged[LAYOUTS + PASSED];
+static unsigned held[FIELDS], left[FIELDS], refused_there[FIELDS], entered[FIELDS], opened[LAYOUTS + PASSED], judged[LAYOUTS + PASSED];
 
 static int field_place(const struct test *t)
 {
@@ -666,6 +685,8 @@ static void count(struct test *t)
         return;
     if (t->op == OP_FIELD && r.number == 0 && v.kind != VALUE_ABSENT)
         held[place]++;
+    if (t->op == OP_FIELD && r.number == 0 && v.misplaced)
+        left[place]++;
     if (t->op == OP_FIELD && (r.number == 9 || (r.number == 10 && r.column)))
         refused_there[place]++;
     if (r.number == 0 && (t->op == OP_PUTTEXT || (t->op == OP_PUT && t->value.kind != VALUE_ABSENT)))
@@ -710,16 +731,22 @@ static void histogram(void)
     }
     unsigned f = 0;
     for (int l = 0; l < LAYOUTS; l++) {
-        printf("%s: opened %u, fine %u; fields read, refused, written:", layouts[l].code, opened[l], judged[l]);
+        printf("%s: opened %u, fine %u; fields read, misplaced, refused, written:", layouts[l].code, opened[l], judged[l]);
         demand(opened[l], layouts[l].code, 0, 0);
         demand(judged[l], layouts[l].code, 0, 1);
+        unsigned wide = 0, misplaced = 0;
         for (int k = 1; k <= layouts[l].count; k++, f++) {
-            printf(" %u-%u-%u", held[f], refused_there[f], entered[f]);
+            const struct field *field = &layouts[l].fields[k - 1];
+            printf(" %u-%u-%u-%u", held[f], left[f], refused_there[f], entered[f]);
             demand(held[f], layouts[l].code, k, 0);
+            if ((field->spelling == SPELL_WHOLE || field->spelling == SPELL_DECIMAL) && field->first < field->last)
+                wide++;
+            misplaced += left[f];
             demand(entered[f], layouts[l].code, k, 1);
-            if (layouts[l].fields[k - 1].spelling != SPELL_COMMENT)
+            if (field->spelling != SPELL_COMMENT)
                 demand(refused_there[f], layouts[l].code, k, 9);
         }
+        demand(wide == 0 || misplaced > 0, layouts[l].code, 0, 6);
         putchar('\n');
     }
     for (int p = 0; p < PASSED; p++) {

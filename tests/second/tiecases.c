@@ -17,7 +17,7 @@ enum {
     MEASURED = 30
 };
 
-enum { OPENING = 8, SERIAL_SIZE = 8, KINDS = 5, CLASSES = 10, MOST_NUMBERS = MOST_FAULTS * ENTRY_SIZE };
+enum { OPENING = 8, SERIAL_SIZE = 8, KINDS = 6, CLASSES = 10, MOST_NUMBERS = MOST_FAULTS * ENTRY_SIZE, MOST_ROOM = 16384 };
 
 // Rooms that are each to be tried, and questions to a header.
 enum { ROOMS = 16, QUESTIONS = 3 };
@@ -51,7 +51,8 @@ static const struct {
 // The pairs of kinds that can stand at one place.
 static const struct {
     uint8_t layout, column, first, second;
-} pairs[] = {{LINE, 30, 2, 4}, {WAYPOINT, 7, 1, 4}, {WAYPOINT, 7, 3, 4}, {POINT, 7, 1, 2}, {POINT, 7, 2, 3}};
+} pairs[] = {{LINE, 30, 2, 4}, {LINE, 79, 5, 6},   {WAYPOINT, 7, 1, 4}, {WAYPOINT, 7, 3, 4}, {WAYPOINT, 9, 2, 6},
+             {GRID, 16, 5, 6}, {POINT, 7, 1, 2},   {POINT, 7, 2, 3},    {NODE, 7, 1, 6},     {NODE, 36, 2, 6}};
 enum { PAIRS = sizeof pairs / sizeof *pairs };
 
 static uint8_t header[MOST_CARDS][CARD_SIZE];
@@ -432,15 +433,79 @@ static void make_long(int same)
     }
 }
 
+// Misplaced numbers.
+
+static int is_number(const struct field *f)
+{
+    return (f->spelling == SPELL_WHOLE || f->spelling == SPELL_DECIMAL) && f->first < f->last;
+}
+
+// Moves the number of a field to the left by some of the blanks before it; a blank field gets a 1.
+static void push_left(uint8_t *card, const struct field *f)
+{
+    uint8_t *s = card + f->first - 1;
+    unsigned n = f->last - f->first + 1u, blanks = 0;
+    while (blanks < n && s[blanks] == ' ')
+        blanks++;
+    if (blanks == n) {
+        s[below(n - 1)] = '1';
+        return;
+    }
+    if (blanks == 0)
+        return;
+    unsigned by = percent(50) ? blanks : 1 + below(blanks);
+    memmove(s, s + by, n - by);
+    memset(s + n - by, ' ', by);
+}
+
+// Does so to a field of a card, unless the card would then be refused.
+static void misplace(uint8_t *card)
+{
+    uint8_t before[CARD_SIZE];
+    int code = code_of(card);
+    if (code < 0 || layouts[code].count == 0)
+        return;
+    const struct field *f = &layouts[code].fields[below(layouts[code].count)];
+    if (!is_number(f))
+        return;
+    memcpy(before, card, CARD_SIZE);
+    push_left(card, f);
+    if (judge_card(card, CARD_SIZE, FORM_UNKNOWN).number)
+        memcpy(card, before, CARD_SIZE);
+}
+
+// 800 cards with as many faults as can be: compasses that stand nowhere, all numbers misplaced.
+static void make_left(void)
+{
+    open_header();
+    cards = OPENING + 1;
+    header[OPENING][3] = (uint8_t)(header[OPENING][29] == '1' ? '2' : '1');
+    write_whole(header[OPENING], 79, 80, 1);
+    while (cards < MOST_CARDS)
+        write_serial(new_card("H23@0", 1), 7, 3);
+    for (unsigned i = 0; i < cards; i++) {
+        const struct layout *l = &layouts[code_of(header[i])];
+        for (unsigned k = 0; k < l->count; k++)
+            if (is_number(&l->fields[k]))
+                push_left(header[i], &l->fields[k]);
+    }
+}
+
 static void make_header(unsigned turn)
 {
     if (turn < 2) {
         make_long(turn == 0);
         return;
     }
+    if (turn == 2) {
+        make_left();
+        return;
+    }
     make_sound(below(4));
     for (unsigned k = percent(15) ? 0 : percent(70) ? 1 + below(3) : 5 + below(20); k; k--)
         break_tie();
+    for (unsigned k = percent(50) ? 0 : percent(30) ? 1 + below(4) : 10 + below(100); k; k--)
+        misplace(header[below(cards)]);
     unsigned i = below(cards), column = below(CARD_SIZE);
     if (percent(4))
         header[i][column] = one_of("x \037\177");
@@ -579,7 +644,7 @@ static void print_header(void)
 // A room below, at or above what the faults need.
 static size_t room_for(size_t faults)
 {
-    size_t needed = faults * ENTRY_SIZE;
+    size_t needed = faults * ENTRY_SIZE < MOST_ROOM - 6 ? faults * ENTRY_SIZE : MOST_ROOM - 6;
     if (percent(30))
         return below(ROOMS);
     if (percent(40))
@@ -657,6 +722,9 @@ static void demand(int good, const char *what, unsigned a, unsigned b, unsigned 
 
 static int can_stand(int layout, unsigned column, unsigned kind)
 {
+    for (unsigned k = 0; kind == 6 && k < layouts[layout].count; k++)
+        if (layouts[layout].fields[k].first == column)
+            return is_number(&layouts[layout].fields[k]);
     for (size_t i = 0; i < sizeof possible / sizeof *possible; i++)
         if (possible[i].layout == layout && possible[i].column == column)
             return strchr(possible[i].kinds, (int)('0' + kind)) != NULL;
@@ -730,7 +798,7 @@ int main(int argc, char **argv)
         size_t faults;
         make_header(turn);
         struct refusal r = check_ties(header[0], cards * CARD_SIZE, list, MOST_NUMBERS, &faults);
-        size_t room = turn < 2 ? MOST_NUMBERS : room_for(faults);
+        size_t room = turn < 3 ? MOST_ROOM : room_for(faults);
         if (argc == 4) {
             headers[r.number ? 2 : faults > 0]++;
             count_list(list, faults);
