@@ -21,6 +21,7 @@ ghost use mathlib.Core.Bool.{false, cond};
 ghost use Prim.Native.Nat.{ℕ, _+_, _≤_};
 ghost use lib.Dec.{T};
 ghost use lib.ListN.{length};
+ghost use Rattle.value_text.specs.text.Texts.{textOf};
 ghost use Rattle.value_field.specs.spelling.Reading.{textReading, wholeReading, readingOf};
 ghost use Rattle.base_digits.specs.digits.Figures.{limit};
 ghost use Rattle.value_number.specs.number.Reading.{numberOf as strictOf};
@@ -108,6 +109,17 @@ fn coordinate_offence(s: &[u8], axis: Axis, form: Form) -> usize
     read_offence(angle::read_angle(s, axis))
 }
 
+// The columns of a number without the blanks behind it: mostly there are none, which its last column tells.
+fn number_in(s: &[u8]) -> &[u8]
+    requires { ⌜ 1 ≤ length (now s) ⌝ }
+    ensures { λ r. ⌜ now r ≡ textOf (now (s .entry)) ⌝ }
+{
+    if s[s.len() - 1] != BLANK {
+        return s;
+    }
+    text::stretch(s)
+}
+
 // The offence of a field that is needed, by its columns and its row.
 fn offence_in(s: &[u8], row: u64, form: Form) -> usize
     requires { ⌜ (1 ≤ length (now s)) × T (wideAs (unpack row .kind) (length (now s))) ⌝ }
@@ -116,8 +128,8 @@ fn offence_in(s: &[u8], row: u64, form: Form) -> usize
     match fields::kind_of(row) {
         Kind::Text => text_offence(s, false),
         Kind::Comment => text_offence(s, true),
-        Kind::Whole => whole_offence(shapes::whole_size(text::stretch(s)), row),
-        Kind::Decimal => shapes::decimal_shape(text::stretch(s)),
+        Kind::Whole => whole_offence(shapes::whole_size(number_in(s)), row),
+        Kind::Decimal => shapes::decimal_shape(number_in(s)),
         Kind::Date => read_offence(value_date::read_date(s)),
         Kind::Latitude => coordinate_offence(s, Axis::Y, form),
         Kind::Longitude => coordinate_offence(s, Axis::X, form),

@@ -34,8 +34,8 @@ text-offence-requires-2 c κs = search needs
 enum-told-3 : tie.Need-enum-told-3
 enum-told-3 c = search needs
 
-stretch-requires : tie.Need-stretch-requires
-stretch-requires c κs = search needs
+number-in-requires : tie.Need-number-in-requires
+number-in-requires c κs = search needs
 
 whole-size-requires : tie.Need-whole-size-requires
 whole-size-requires c κs = search needs
@@ -46,15 +46,15 @@ whole-offence-requires c κs = search needs
 enum-told-4 : tie.Need-enum-told-4
 enum-told-4 c = search needs
 
-stretch-requires-2 : tie.Need-stretch-requires-2
-stretch-requires-2 c κs = search needs
+number-in-requires-2 : tie.Need-number-in-requires-2
+number-in-requires-2 c κs = search needs
 
 decimal-shape-requires : tie.Need-decimal-shape-requires
 decimal-shape-requires c κs =
     let k = c .before in
     let a = k .before .before .before .before in
     let w = few (unpack (a .args .row) .kind) _ (sym (k .before .before .kind-of .ensures) ∙ k .enum-told4 .given .1) (a .pre .1) in
-    omega (arith, w, stretch-le (now (a .args .s)), ap length (c .stretch2 .ensures))
+    omega (arith, w, stretch-le (now (a .args .s)), ap length (c .number-in2 .ensures))
 
 enum-told-5 : tie.Need-enum-told-5
 enum-told-5 c = search needs
@@ -88,7 +88,7 @@ returns-3 c =
     let t = c .before .before in
     let k = t .before .before .before in
     let a = k .before .before .args in
-    c .whole-offence .ensures (textOf (now (a .s))) (c .before .whole-size .ensures .0 ∙ ap (λ u. sizeOf (numberOf false u)) (t .stretch .ensures))
+    c .whole-offence .ensures (textOf (now (a .s))) (c .before .whole-size .ensures .0 ∙ ap (λ u. sizeOf (numberOf false u)) (t .number-in .ensures))
     ∙ as-whole (unpack (a .row)) _ (now (a .s)) (sym (k .kind-of .ensures) ∙ t .before .enum-told3 .given .1)
 
 returns-4 : tie.Need-returns-4
@@ -96,7 +96,7 @@ returns-4 c =
     let t = c .before in
     let k = t .before .before .before in
     let a = k .before .before .args in
-    c .decimal-shape .ensures ∙ ap (λ u. offenceOf (numberOf true u)) (t .stretch2 .ensures)
+    c .decimal-shape .ensures ∙ ap (λ u. offenceOf (numberOf true u)) (t .number-in2 .ensures)
     ∙ as-decimal (unpack (a .row)) _ (now (a .s)) (sym (k .kind-of .ensures) ∙ t .before .enum-told4 .given .1)
 
 returns-5 : tie.Need-returns-5
@@ -118,11 +118,11 @@ offence-in-spec =
     enum-told-2
     text-offence-requires-2
     enum-told-3
-    stretch-requires
+    number-in-requires
     whole-size-requires
     whole-offence-requires
     enum-told-4
-    stretch-requires-2
+    number-in-requires-2
     decimal-shape-requires
     enum-told-5
     read-date-requires
