@@ -307,7 +307,7 @@ static void good_columns(uint8_t *card, const struct field *f, uint64_t form)
         break;
     default: good_text(s, n, f->spelling == SPELL_COMMENT);
     }
-    if ((f->spelling == SPELL_WHOLE || f->spelling == SPELL_DECIMAL) && percent(50))
+    if ((f->spelling == SPELL_WHOLE || f->spelling == SPELL_DECIMAL) && percent(66))
         push_left(s, n);
 }
 
