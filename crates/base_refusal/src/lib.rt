@@ -35,6 +35,14 @@ pub const NO_SUCH: usize = 13;
 
 pub const NO_ROOM: usize = 14;
 
+// Of a diskette file: a line of more than 80 characters, CR or LF without the other, or a last line without both.
+pub const TOO_LONG: usize = 15;
+
+pub const NO_LINE_END: usize = 16;
+
+// Of an output that a caller lends: no room in it.
+pub const NO_OUTPUT: usize = 17;
+
 // A refusal's number, card and column: 0 for a card or a column where there is none.
 pub struct Refusal {
     pub number: usize,

@@ -46,7 +46,7 @@ fn well_formed(text: &[u8], lead: bool) -> bool
 }
 
 // Copies a text to the front of the columns.
-fn copy(columns: &mut [u8], text: &[u8])
+pub fn copy(columns: &mut [u8], text: &[u8])
     requires { ⌜ length (now text) ≤ length (now columns) ⌝ }
     ensures { λ _. ⌜ now (columns .exit) ≡ now (text .entry) ++ drop (length (now (text .entry))) (now (columns .entry)) ⌝ }
 {

@@ -1,0 +1,5 @@
+pub mod Judging
+pub mod Laying
+pub mod Filing
+pub mod Printed
+pub mod Back
