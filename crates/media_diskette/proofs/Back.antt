@@ -223,6 +223,15 @@ disk-told h room n e =
     let x = cards-fine h n (in-room room n (cardsJudged h) e .0) in
     (x .size, omega (arith, x .size, disk-bound h))
 
+-- neither is above the room
+pub to-fits : (h : List ℕ) (room n : ℕ) → toAnswer h room ≡ Length n → n ≤ room
+unfolding toAnswer
+to-fits h room n e = in-room room n (cardsJudged h) e .1
+
+pub from-fits : (f : List ℕ) (room n : ℕ) → fromAnswer f room ≡ Length n → n ≤ room
+unfolding fromAnswer
+from-fits f room n e = in-room room n (fileJudged f) e .1
+
 -- A FILE WITHOUT BLANKS AT THE ENDS OF ITS LINES
 
 -- bytes that do not end in a blank are their own text
