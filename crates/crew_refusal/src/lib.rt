@@ -33,13 +33,26 @@ fn push_byte_name(out: &mut [u8], n: usize, b: u8) -> usize {
     }
 }
 
+// Puts what helps where the byte is of a line end.
+fn push_line_end(out: &mut [u8], n: usize, b: u8) -> usize {
+    if (b == 10) | (b == 13) {
+        return page::push_all(
+            out,
+            n,
+            b" Of a file with line ends, ./lineform cards makes a header.",
+        );
+    }
+    n
+}
+
 // 4: which byte it is.
 fn push_unprintable(out: &mut [u8], n: usize, card: &[u8], column: usize) -> usize {
     let byte = byte_in(card, column);
     let words = b"The byte in column # is no printable ASCII character: its value is #";
     let value = page::push_form(out, n, words, column as u64, byte as u64, 0);
     let name = push_byte_name(out, value, byte);
-    page::push(out, name, b'.')
+    let told = page::push(out, name, b'.');
+    push_line_end(out, told, byte)
 }
 
 // The byte in a column, 0 where there is none.

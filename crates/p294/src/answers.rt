@@ -8,11 +8,12 @@ use base_value::Value;
 use card_field::FieldRead;
 use card_put::Entered;
 use card_put::opening::Opened;
+use media_diskette::Converted;
 use tie_check::Ties;
 use tie_lookup::questions::Defined;
 ghost use mathlib.Core.Path.{_≡_};
 ghost use mathlib.Core.Bool.{false};
-ghost use Rattle.p294.specs.answers.Replies.{plain, refusedReply, doneReply, mark, valueReply, fieldReply, textAlone, enteredReply, openedReply, countReply, onlyReply, tiesReply, keyReply};
+ghost use Rattle.p294.specs.answers.Replies.{plain, refusedReply, doneReply, mark, valueReply, fieldReply, textAlone, enteredReply, openedReply, countReply, onlyReply, tiesReply, keyReply, convertedReply};
 
 // What the answer with a text says.
 const TEXT: i64 = 5;
@@ -223,5 +224,15 @@ pub fn of_key(defined: Defined) -> Reply
         Defined::Only(card, column) => only(card, column),
         Defined::Several(n) => counted(n),
         Defined::Refused(r) => refused(r),
+    }
+}
+
+// What came of a conversion.
+pub fn of_converted(converted: Converted) -> Reply
+    ensures { λ r. ⌜ r ≡ convertedReply converted ⌝ }
+{
+    match converted {
+        Converted::Length(n) => counted(n),
+        Converted::Refused(r) => refused(r),
     }
 }

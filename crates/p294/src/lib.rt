@@ -11,11 +11,13 @@ ghost use Rattle.card_field.specs.Reading.{fieldReading};
 ghost use Rattle.card_put.specs.opening.Opening.{openedOf, openedCard};
 ghost use Rattle.card_put.specs.Putting.{answerOf, leftBy, puttingOf, puttingTextOf};
 ghost use Rattle.header_check.specs.Refusing.{refusalOf};
+ghost use Rattle.media_diskette.specs.Lines.{diskOf, cardsFrom};
+ghost use Rattle.media_diskette.specs.Answers.{toAnswer, fromAnswer, outputBy};
 ghost use Rattle.tie_rules.specs.Faults.{faults, entries};
 ghost use Rattle.tie_check.specs.Answer.{answerFor, listFor};
 ghost use Rattle.tie_lookup.specs.questions.Questions.{keyAnswer};
 ghost use Rattle.p294.specs.offered.Offers.{offeredOf, keyOf, keyTextOf};
-ghost use Rattle.p294.specs.answers.Replies.{fieldReply, textReply, enteredReply, openedReply, tiesReply, keyReply};
+ghost use Rattle.p294.specs.answers.Replies.{fieldReply, textReply, enteredReply, openedReply, tiesReply, keyReply, convertedReply};
 ghost use Rattle.p294.specs.Given.{given};
 
 // How many numbers go with an answer.
@@ -165,5 +167,31 @@ pub extern "C" fn p294_key(
     let key = offered::key_of(kind, a, b);
     let bytes = offered::key_text(kind, text);
     let reply = answers::of_key(tie_lookup::find_key(header, class, key, bytes));
+    give(numbers, reply)
+}
+
+// A header as a diskette file, in the lent output.
+#[no_mangle]
+pub extern "C" fn p294_to_disk(header: &[u8], out: &mut [u8], numbers: &mut [i64]) -> i64
+    ensures said { λ r. ⌜ r ≡ convertedReply (toAnswer (now (header .entry)) (length (now (out .entry)))) .said ⌝ }
+    ensures numbers { λ _. ⌜ now (numbers .exit)
+        ≡ given (now (numbers .entry)) (convertedReply (toAnswer (now (header .entry)) (length (now (out .entry))))) ⌝ }
+    ensures out { λ _. ⌜ now (out .exit)
+        ≡ outputBy (toAnswer (now (header .entry)) (length (now (out .entry)))) (diskOf (now (header .entry))) (now (out .entry)) ⌝ }
+{
+    let reply = answers::of_converted(media_diskette::to_diskette(header, out));
+    give(numbers, reply)
+}
+
+// A diskette file as a header, in the lent output.
+#[no_mangle]
+pub extern "C" fn p294_from_disk(file: &[u8], out: &mut [u8], numbers: &mut [i64]) -> i64
+    ensures said { λ r. ⌜ r ≡ convertedReply (fromAnswer (now (file .entry)) (length (now (out .entry)))) .said ⌝ }
+    ensures numbers { λ _. ⌜ now (numbers .exit)
+        ≡ given (now (numbers .entry)) (convertedReply (fromAnswer (now (file .entry)) (length (now (out .entry))))) ⌝ }
+    ensures out { λ _. ⌜ now (out .exit)
+        ≡ outputBy (fromAnswer (now (file .entry)) (length (now (out .entry)))) (cardsFrom (now (file .entry))) (now (out .entry)) ⌝ }
+{
+    let reply = answers::of_converted(media_diskette::from_diskette(file, out));
     give(numbers, reply)
 }

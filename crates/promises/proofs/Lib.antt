@@ -2,4 +2,5 @@ pub mod Header
 pub mod Cards
 pub mod Lists
 pub mod Taken
+pub mod Media
 pub mod Promises

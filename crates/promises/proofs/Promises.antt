@@ -2,7 +2,7 @@
 -- functions answer and leave, for every input; the contracts in src/ say that they answer and leave just this. A reader has to
 -- believe the definitions that are named here, each in the specs/ of its crate, and nothing else.
 use Prim.Native.Nat.{ℕ, _+_, _*_, _-_, _/_, _≤_, _<_, min}
-use mathlib.Core.Path.{_≡_}
+use mathlib.Core.Path.{_≡_, ap}
 use mathlib.Core.Bool.{Bool, true, false}
 use mathlib.Core.Logic.{_↔_}
 use mathlib.Core.List.{List, [], _∷_, _++_, map, flatMap, List·Memᴰ}
@@ -50,12 +50,18 @@ use Rattle.tie_lookup.specs.declared.questions.Defined.the-variants as defined
 use Rattle.tie_lookup.specs.questions.Questions.{isClass, keyOffered, definedBy, keyAnswer, askedAt}
 use Rattle.crew_answer.specs.Answer.{answerTo}
 use Rattle.crew_answer.specs.lines.Text.{bytes, newline}
+use Rattle.media_diskette.specs.declared.Converted.the-variants as converted
+use Rattle.media_diskette.specs.Lines.{diskOf, cardsFrom, trimmed, Cards, NoBlankEnds}
+use Rattle.media_diskette.specs.Answers.{toAnswer, fromAnswer, outputBy}
 use Rattle.promises.specs.Header.{headerRows}
+use Rattle.promises.specs.Media.{toRows, fromRows}
 use Rattle.promises.specs.Words.{putAnswer, putCard, textAnswer, textCard, AlikeOutside, listOf, Before, Moved, Skipped, without, newNumber, movedDown}
 use Rattle.promises.proofs.Header as header
 use Rattle.promises.proofs.Cards as cards
 use Rattle.promises.proofs.Lists as lists
 use Rattle.promises.proofs.Taken as taken
+use Rattle.promises.proofs.Media as media
+use Rattle.media_diskette.proofs.Back as diskette
 use Rattle.card_laws.proofs.exactly.Fields as fields
 use Rattle.card_laws.proofs.exactly.Entries as puts
 use Rattle.card_laws.proofs.exactly.Cards as whole-cards
@@ -319,3 +325,46 @@ pub worked : answerTo example
     ≡ bytes "broken 4" ++ newline ++ bytes "11 11 2 1" ++ newline ++ bytes "11 36 2 1" ++ newline ++ bytes "12 7 4 2" ++ newline
     ++ bytes "13 7 1 1" ++ newline
 worked = worked-example.five-lines
+
+-- MEDIA. A header as a diskette file and back. Each conversion is refused exactly by its table, and then leaves the output as it was;
+-- else it answers the length written, lays the text to the output's front, and leaves the rest as it was.
+
+pub to-diskette : (h : List ℕ) (room : ℕ)
+    → Exactly (toRows h room) (λ r. toAnswer h room ≡ converted.Refused r) ((n : ℕ) × (toAnswer h room ≡ converted.Length n))
+to-diskette = media.to-exactly
+
+pub from-diskette : (f : List ℕ) (room : ℕ)
+    → Exactly (fromRows f room) (λ r. fromAnswer f room ≡ converted.Refused r) ((n : ℕ) × (fromAnswer f room ≡ converted.Length n))
+from-diskette = media.from-exactly
+
+pub diskette-refused : (h out text : List ℕ) (r : Refusal) → toAnswer h (length out) ≡ converted.Refused r
+    → outputBy (toAnswer h (length out)) text out ≡ out
+diskette-refused h out text r e = ap (λ a. outputBy a text out) e
+
+pub cards-refused : (f out text : List ℕ) (r : Refusal) → fromAnswer f (length out) ≡ converted.Refused r
+    → outputBy (fromAnswer f (length out)) text out ≡ out
+cards-refused f out text r e = ap (λ a. outputBy a text out) e
+
+-- 1 to 800 printable cards go to diskette in 82 bytes a card, and come back byte for byte
+pub card-to-card : (h : List ℕ) → Cards h → (room back : ℕ) → 82 * (length h / 80) ≤ room → length h ≤ back
+    → (toAnswer h room ≡ converted.Length (length (diskOf h)))
+    × (fromAnswer (diskOf h) back ≡ converted.Length (length h))
+    × (cardsFrom (diskOf h) ≡ h)
+card-to-card = diskette.to-and-back
+
+-- an accepted file becomes cards, and these become the file without the blanks at the ends of its lines, in no more room; so it comes
+-- back byte for byte where no line ends in a blank
+pub disk-to-disk : (f : List ℕ) (room n back : ℕ) → fromAnswer f room ≡ converted.Length n → length f ≤ back
+    → (toAnswer (cardsFrom f) back ≡ converted.Length (length (trimmed f))) × (diskOf (cardsFrom f) ≡ trimmed f)
+disk-to-disk = diskette.from-and-back
+
+pub nothing-trimmed : (f : List ℕ) (room n : ℕ) → fromAnswer f room ≡ converted.Length n → NoBlankEnds f → trimmed f ≡ f
+nothing-trimmed = diskette.kept
+
+-- the length answered is that of what is written: at most 82 bytes a card, and at most 64,000 bytes of cards
+pub diskette-length : (h : List ℕ) (room n : ℕ) → toAnswer h room ≡ converted.Length n
+    → (length (diskOf h) ≡ n) × (n ≤ 82 * (length h / 80))
+diskette-length = diskette.disk-told
+
+pub cards-length : (f : List ℕ) (room n : ℕ) → fromAnswer f room ≡ converted.Length n → (length (cardsFrom f) ≡ n) × (n ≤ 64000)
+cards-length = diskette.cards-told

@@ -14,6 +14,8 @@ use Rattle.card_put.specs.declared.Entered.{Entered}
 use Rattle.card_put.specs.declared.Entered.the-variants as entered
 use Rattle.card_put.specs.declared.opening.Opened.{Opened}
 use Rattle.card_put.specs.declared.opening.Opened.the-variants as opened
+use Rattle.media_diskette.specs.declared.Converted.{Converted}
+use Rattle.media_diskette.specs.declared.Converted.the-variants as converted
 use Rattle.tie_check.specs.declared.Ties.{Ties}
 use Rattle.tie_check.specs.declared.Ties.the-variants as ties
 use Rattle.tie_lookup.specs.declared.questions.Defined.{Defined}
@@ -102,3 +104,8 @@ keyReply defined.None = doneReply
 keyReply (defined.Only card column) = onlyReply card column
 keyReply (defined.Several n) = countReply n
 keyReply (defined.Refused r) = refusedReply r
+
+-- a conversion: the length written, or its refusal
+unfoldable pub convertedReply : Converted → Reply
+convertedReply (converted.Length n) = countReply n
+convertedReply (converted.Refused r) = refusedReply r
