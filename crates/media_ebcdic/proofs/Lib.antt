@@ -1,0 +1,5 @@
+pub mod Lines
+pub mod Going
+pub mod Undone
+pub mod Buffers
+pub mod Examples
