@@ -1,4 +1,4 @@
--- Buffers: there and back is the buffer, 17 exactly where the output is shorter, and what lies behind stays.
+-- Buffers: what a translation leaves of the output, and there and back is the buffer.
 use Prim.Native.Nat.{ℕ, _≤_, _<_}
 use mathlib.Core.Path.{_≡_, refl, _∙_, ap, ap₂}
 use mathlib.Core.List.{List, [], _∷_, _++_, map}
@@ -49,7 +49,7 @@ module _ (f g : ℕ → ℕ) (byte : (b : ℕ) → b < 256 → f b < 256) (back 
   map-back [] h = refl
   map-back (b ∷ s) h = ap₂ _∷_ (back b (h .0)) (map-back s (h .1))
 
--- what is translated is bytes
+-- what is translated is bytes, as many as there were
 pub ascii-bytes : (tape : List ℕ) → Bytes tape → Bytes (asciiFrom tape)
 unfolding asciiFrom
 ascii-bytes = map-bytes asciiOf ebcdicOf ascii-byte ascii-back
@@ -57,6 +57,14 @@ ascii-bytes = map-bytes asciiOf ebcdicOf ascii-byte ascii-back
 pub ebcdic-bytes : (text : List ℕ) → Bytes text → Bytes (ebcdicFrom text)
 unfolding ebcdicFrom
 ebcdic-bytes = map-bytes ebcdicOf asciiOf ebcdic-byte ebcdic-back
+
+pub ascii-length : (tape : List ℕ) → length (asciiFrom tape) ≡ length tape
+unfolding asciiFrom
+ascii-length tape = length-map tape asciiOf
+
+pub ebcdic-length : (text : List ℕ) → length (ebcdicFrom text) ≡ length text
+unfolding ebcdicFrom
+ebcdic-length text = length-map text ebcdicOf
 
 -- there and back
 pub tape-back : (tape : List ℕ) → Bytes tape → ebcdicFrom (asciiFrom tape) ≡ tape
@@ -66,12 +74,3 @@ tape-back = map-back asciiOf ebcdicOf ascii-byte ascii-back
 pub text-back : (text : List ℕ) → Bytes text → asciiFrom (ebcdicFrom text) ≡ text
 unfolding asciiFrom ebcdicFrom
 text-back = map-back ebcdicOf asciiOf ebcdic-byte ebcdic-back
-
--- as many bytes as there were
-pub ascii-length : (tape : List ℕ) → length (asciiFrom tape) ≡ length tape
-unfolding asciiFrom
-ascii-length tape = length-map tape asciiOf
-
-pub ebcdic-length : (text : List ℕ) → length (ebcdicFrom text) ≡ length text
-unfolding ebcdicFrom
-ebcdic-length text = length-map text ebcdicOf

@@ -9,11 +9,12 @@ use card_field::FieldRead;
 use card_put::Entered;
 use card_put::opening::Opened;
 use media_diskette::Converted;
+use media_ebcdic::Translated;
 use tie_check::Ties;
 use tie_lookup::questions::Defined;
 ghost use mathlib.Core.Path.{_≡_};
 ghost use mathlib.Core.Bool.{false};
-ghost use Rattle.p294.specs.answers.Replies.{plain, refusedReply, doneReply, mark, valueReply, fieldReply, textAlone, enteredReply, openedReply, countReply, onlyReply, tiesReply, keyReply, convertedReply};
+ghost use Rattle.p294.specs.answers.Replies.{plain, refusedReply, doneReply, mark, valueReply, fieldReply, textAlone, enteredReply, openedReply, countReply, onlyReply, tiesReply, keyReply, convertedReply, translatedReply};
 
 // What the answer with a text says.
 const TEXT: i64 = 5;
@@ -234,5 +235,15 @@ pub fn of_converted(converted: Converted) -> Reply
     match converted {
         Converted::Length(n) => counted(n),
         Converted::Refused(r) => refused(r),
+    }
+}
+
+// What came of a translation.
+pub fn of_translated(translated: Translated) -> Reply
+    ensures { λ r. ⌜ r ≡ translatedReply translated ⌝ }
+{
+    match translated {
+        Translated::Done(n) => counted(n),
+        Translated::Refused(r) => refused(r),
     }
 }

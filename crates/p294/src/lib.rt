@@ -7,6 +7,7 @@ use crate::answers::Reply;
 use card_put::opening;
 ghost use mathlib.Core.Path.{_≡_};
 ghost use lib.ListN.{length};
+ghost use Rattle.base_lists.specs.Laid.{stored};
 ghost use Rattle.card_field.specs.Reading.{fieldReading};
 ghost use Rattle.card_put.specs.opening.Opening.{openedOf, openedCard};
 ghost use Rattle.card_put.specs.Putting.{answerOf, leftBy, puttingOf, puttingTextOf};
@@ -16,8 +17,9 @@ ghost use Rattle.media_diskette.specs.Answers.{toAnswer, fromAnswer, outputBy};
 ghost use Rattle.tie_rules.specs.Faults.{faults, entries};
 ghost use Rattle.tie_check.specs.Answer.{answerFor, listFor};
 ghost use Rattle.tie_lookup.specs.questions.Questions.{keyAnswer};
+ghost use Rattle.media_ebcdic.specs.Translating.{asciiFrom, ebcdicFrom, translatedFor};
 ghost use Rattle.p294.specs.offered.Offers.{offeredOf, keyOf, keyTextOf};
-ghost use Rattle.p294.specs.answers.Replies.{fieldReply, textReply, enteredReply, openedReply, tiesReply, keyReply, convertedReply};
+ghost use Rattle.p294.specs.answers.Replies.{fieldReply, textReply, enteredReply, openedReply, tiesReply, keyReply, convertedReply, translatedReply};
 ghost use Rattle.p294.specs.Given.{given};
 
 // How many numbers go with an answer.
@@ -193,5 +195,31 @@ pub extern "C" fn p294_from_disk(file: &[u8], out: &mut [u8], numbers: &mut [i64
         ≡ outputBy (fromAnswer (now (file .entry)) (length (now (out .entry)))) (cardsFrom (now (file .entry))) (now (out .entry)) ⌝ }
 {
     let reply = answers::of_converted(media_diskette::from_diskette(file, out));
+    give(numbers, reply)
+}
+
+// A tape in EBCDIC, translated to ASCII into an output.
+#[no_mangle]
+pub extern "C" fn p294_from_ebcdic(tape: &[u8], out: &mut [u8], numbers: &mut [i64]) -> i64
+    ensures said { λ r. ⌜ r
+        ≡ translatedReply (translatedFor (length (now (tape .entry))) (length (now (out .entry)))) .said ⌝ }
+    ensures numbers { λ _. ⌜ now (numbers .exit)
+        ≡ given (now (numbers .entry)) (translatedReply (translatedFor (length (now (tape .entry))) (length (now (out .entry))))) ⌝ }
+    ensures out { λ _. ⌜ now (out .exit) ≡ stored (now (out .entry)) 0 (asciiFrom (now (tape .entry))) ⌝ }
+{
+    let reply = answers::of_translated(media_ebcdic::to_ascii(tape, out));
+    give(numbers, reply)
+}
+
+// A text in ASCII, translated to EBCDIC into an output.
+#[no_mangle]
+pub extern "C" fn p294_to_ebcdic(text: &[u8], out: &mut [u8], numbers: &mut [i64]) -> i64
+    ensures said { λ r. ⌜ r
+        ≡ translatedReply (translatedFor (length (now (text .entry))) (length (now (out .entry)))) .said ⌝ }
+    ensures numbers { λ _. ⌜ now (numbers .exit)
+        ≡ given (now (numbers .entry)) (translatedReply (translatedFor (length (now (text .entry))) (length (now (out .entry))))) ⌝ }
+    ensures out { λ _. ⌜ now (out .exit) ≡ stored (now (out .entry)) 0 (ebcdicFrom (now (text .entry))) ⌝ }
+{
+    let reply = answers::of_translated(media_ebcdic::to_ebcdic(text, out));
     give(numbers, reply)
 }

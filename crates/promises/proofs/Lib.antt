@@ -3,4 +3,5 @@ pub mod Cards
 pub mod Lists
 pub mod Taken
 pub mod Media
+pub mod Ebcdic
 pub mod Promises

@@ -6,7 +6,7 @@ use mathlib.Core.Path.{_≡_, ap}
 use mathlib.Core.Bool.{Bool, true, false}
 use mathlib.Core.Logic.{_↔_}
 use mathlib.Core.List.{List, [], _∷_, _++_, map, flatMap, List·Memᴰ}
-use lib.ListN.{length, getD, drop, replicate}
+use lib.ListN.{length, getD, take, drop, replicate}
 use Rattle.base_refusal.specs.declared.Refusal.{Refusal}
 use Rattle.base_refusal.specs.Refusals.{refusal}
 use Rattle.base_lists.specs.Count.{count}
@@ -48,6 +48,8 @@ use Rattle.tie_check.specs.Answer.{answerFor, listFor}
 use Rattle.tie_lookup.specs.declared.questions.Key.{Key}
 use Rattle.tie_lookup.specs.declared.questions.Defined.the-variants as defined
 use Rattle.tie_lookup.specs.questions.Questions.{isClass, keyOffered, definedBy, keyAnswer, askedAt}
+use Rattle.media_ebcdic.specs.declared.Translated.the-variants as translated
+use Rattle.media_ebcdic.specs.Translating.{Bytes, translatedFor}
 use Rattle.crew_answer.specs.Answer.{answerTo}
 use Rattle.crew_answer.specs.lines.Text.{bytes, newline}
 use Rattle.media_diskette.specs.declared.Converted.the-variants as converted
@@ -55,6 +57,7 @@ use Rattle.media_diskette.specs.Lines.{diskOf, cardsFrom, trimmed, Cards, NoBla
 use Rattle.media_diskette.specs.Answers.{toAnswer, fromAnswer, outputBy}
 use Rattle.promises.specs.Header.{headerRows}
 use Rattle.promises.specs.Media.{toRows, fromRows}
+use Rattle.promises.specs.Ebcdic.{asciiIn, ebcdicIn, translateRows}
 use Rattle.promises.specs.Words.{putAnswer, putCard, textAnswer, textCard, AlikeOutside, listOf, Before, Moved, Skipped, without, newNumber, movedDown}
 use Rattle.promises.proofs.Header as header
 use Rattle.promises.proofs.Cards as cards
@@ -62,6 +65,7 @@ use Rattle.promises.proofs.Lists as lists
 use Rattle.promises.proofs.Taken as taken
 use Rattle.promises.proofs.Media as media
 use Rattle.media_diskette.proofs.Back as diskette
+use Rattle.promises.proofs.Ebcdic as tapes
 use Rattle.card_laws.proofs.exactly.Fields as fields
 use Rattle.card_laws.proofs.exactly.Entries as puts
 use Rattle.card_laws.proofs.exactly.Cards as whole-cards
@@ -368,3 +372,36 @@ diskette-length = diskette.disk-told
 
 pub cards-length : (f : List ℕ) (room n : ℕ) → fromAnswer f room ≡ converted.Length n → (length (cardsFrom f) ≡ n) × (n ≤ 64000)
 cards-length = diskette.cards-told
+
+-- A tape in EBCDIC is translated to ASCII, and a text back. Every byte and every length translates: the one refusal is 17, where
+-- the output is shorter.
+
+pub translating : (bytes room : ℕ)
+    → Exactly (translateRows bytes room)
+    (λ r. translatedFor bytes room ≡ translated.Refused r)
+    (translatedFor bytes room ≡ translated.Done bytes)
+translating = tapes.translated-exactly
+
+-- What was written, translated back, is the buffer that it came from.
+
+pub tape-again : (tape out again : List ℕ) → Bytes tape → length tape ≤ length out → length tape ≤ length again
+    → take (length tape) (ebcdicIn again (take (length tape) (asciiIn out tape))) ≡ tape
+tape-again = tapes.tape-again
+
+pub ascii-again : (text out again : List ℕ) → Bytes text → length text ≤ length out → length text ≤ length again
+    → take (length text) (asciiIn again (take (length text) (ebcdicIn out text))) ≡ text
+ascii-again = tapes.text-again
+
+-- The output behind the input's length stays as it was, and all of it where it is shorter.
+
+pub behind-tape : (tape out : List ℕ) → drop (length tape) (asciiIn out tape) ≡ drop (length tape) out
+behind-tape = tapes.ascii-behind
+
+pub behind-text : (text out : List ℕ) → drop (length text) (ebcdicIn out text) ≡ drop (length text) out
+behind-text = tapes.ebcdic-behind
+
+pub short-for-tape : (tape out : List ℕ) → length out < length tape → asciiIn out tape ≡ out
+short-for-tape = tapes.ascii-stays
+
+pub short-for-text : (text out : List ℕ) → length out < length text → ebcdicIn out text ≡ out
+short-for-text = tapes.ebcdic-stays

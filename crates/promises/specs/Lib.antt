@@ -1,3 +1,4 @@
 pub mod Header
 pub mod Media
 pub mod Words
+pub mod Ebcdic

@@ -20,6 +20,8 @@ use Rattle.tie_check.specs.declared.Ties.{Ties}
 use Rattle.tie_check.specs.declared.Ties.the-variants as ties
 use Rattle.tie_lookup.specs.declared.questions.Defined.{Defined}
 use Rattle.tie_lookup.specs.declared.questions.Defined.the-variants as defined
+use Rattle.media_ebcdic.specs.declared.Translated.{Translated}
+use Rattle.media_ebcdic.specs.declared.Translated.the-variants as translated
 use Rattle.p294.specs.declared.answers.Reply.{Reply}
 
 abbrev pub reply : ℤ → ℤ → ℤ → ℤ → Reply
@@ -109,3 +111,8 @@ keyReply (defined.Refused r) = refusedReply r
 unfoldable pub convertedReply : Converted → Reply
 convertedReply (converted.Length n) = countReply n
 convertedReply (converted.Refused r) = refusedReply r
+
+-- a translation: the number of bytes written, or its refusal
+unfoldable pub translatedReply : Translated → Reply
+translatedReply (translated.Done n) = countReply n
+translatedReply (translated.Refused r) = refusedReply r
