@@ -13,6 +13,11 @@ use header_check::forms;
 // The cards H0000 to H0007 that open a header.
 const OPENING: usize = 8;
 
+// The first two bytes of a header in EBCDIC, H and 0.
+const EBCDIC_H: u8 = 0xc8;
+
+const EBCDIC_0: u8 = 0xf0;
+
 // 2: how long the header is.
 fn push_length(out: &mut [u8], n: usize, header: &[u8]) -> usize {
     if header.len() == 1 {
@@ -216,6 +221,18 @@ fn push_card_if(out: &mut [u8], n: usize, card: &[u8], column: usize) -> usize {
     page::push_card(out, n, card, column)
 }
 
+// Puts what to do with a tape in EBCDIC, if the header looks like one.
+fn push_tape(out: &mut [u8], n: usize, header: &[u8]) -> usize {
+    if base_lists::byte_at(header, 0) != EBCDIC_H {
+        return n;
+    }
+    if base_lists::byte_at(header, 1) != EBCDIC_0 {
+        return n;
+    }
+    let words = b"  This looks like a tape in EBCDIC: ./lineform ascii translates it.\n";
+    page::push_all(out, n, words)
+}
+
 // Tells why a header is refused: its card, a caret, and a sentence, each behind two blanks.
 pub fn tell_refusal(out: &mut [u8], n: usize, header: &[u8], refusal: Refusal) -> usize {
     let number = refusal.number;
@@ -224,5 +241,6 @@ pub fn tell_refusal(out: &mut [u8], n: usize, header: &[u8], refusal: Refusal) -
     let shown = push_card_if(out, n, page::card_in(header, place), column);
     let begun = page::push_all(out, shown, b"  ");
     let told = push_reason(out, begun, header, number, place, column);
-    page::push(out, told, b'\n')
+    let ended = page::push(out, told, b'\n');
+    push_tape(out, ended, header)
 }
