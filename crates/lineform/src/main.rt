@@ -8,11 +8,14 @@ use crew_io::input;
 use crew_io::input::Input;
 use libc::STDOUT_FILENO;
 use media_diskette::Converted;
+use media_ebcdic::Translated;
 
 // The forms that can be asked for.
 enum Form {
     Disk,
     Cards,
+    Ascii,
+    Ebcdic,
     Other,
 }
 
@@ -38,6 +41,12 @@ fn form_of(word: &[u8]) -> Form {
     }
     if words::same(word, b"cards") {
         return Form::Cards;
+    }
+    if words::same(word, b"ascii") {
+        return Form::Ascii;
+    }
+    if words::same(word, b"ebcdic") {
+        return Form::Ebcdic;
     }
     Form::Other
 }
@@ -86,12 +95,34 @@ fn to_cards(input: &[u8]) {
     }
 }
 
+// Writes a tape in EBCDIC as ASCII.
+fn to_ascii(input: &[u8]) {
+    let mut out = [0u8; FILE];
+    let done = media_ebcdic::to_ascii(input, &mut out);
+    match done {
+        Translated::Done(n) => write(&out[..n]),
+        Translated::Refused(r) => words::tell(r, b""),
+    }
+}
+
+// Writes a text in ASCII as EBCDIC.
+fn to_ebcdic(input: &[u8]) {
+    let mut out = [0u8; FILE];
+    let done = media_ebcdic::to_ebcdic(input, &mut out);
+    match done {
+        Translated::Done(n) => write(&out[..n]),
+        Translated::Refused(r) => words::tell(r, b""),
+    }
+}
+
 // Writes the input in a form.
 fn convert(form: Form, input: &[u8]) {
     match form {
         Form::Disk => to_disk(input),
         Form::Cards => to_cards(input),
-        Form::Other => words::say(b"lineform: usage: lineform disk|cards\n"),
+        Form::Ascii => to_ascii(input),
+        Form::Ebcdic => to_ebcdic(input),
+        Form::Other => words::say(b"lineform: usage: lineform disk|cards|ascii|ebcdic\n"),
     }
 }
 

@@ -1,16 +1,19 @@
 -- Buffers: what a translation leaves of the output, and there and back is the buffer.
 use Prim.Native.Nat.{ℕ, _≤_, _<_}
-use mathlib.Core.Path.{_≡_, refl, _∙_, ap, ap₂}
+use mathlib.Core.Path.{_≡_, refl, _∙_, ap, ap₂, subst}
 use mathlib.Core.List.{List, [], _∷_, _++_, map}
 use native.Mathlib.Nat.{zero-add}
 use native.Mathlib.Omega.{arith}
 use native.Mathlib.Decide.{decLe}
+use borrow.Author.Tests.{lt-ltb, le-ltb}
 use lib.ListN.{length, take, drop, length-map}
 use lib.Seq.{take-append-seam, drop-append-seam, length-sets}
 use Rattle.base_lists.specs.Laid.{stored}
 use Rattle.base_lists.proofs.Laying.{stored-fits, stored-full, stored-sets}
+use Rattle.media_ebcdic.specs.declared.Translated.{Translated}
+use Rattle.media_ebcdic.specs.declared.Translated.the-variants.{Done, Refused}
 use Rattle.media_ebcdic.specs.Tables.{asciiOf, ebcdicOf}
-use Rattle.media_ebcdic.specs.Translating.{Bytes, asciiFrom, ebcdicFrom}
+use Rattle.media_ebcdic.specs.Translating.{Bytes, asciiFrom, ebcdicFrom, translatedFor}
 use Rattle.media_ebcdic.proofs.Undone.{ascii-byte, ebcdic-byte, ascii-back, ebcdic-back}
 
 -- whatever is written from the front of a lent output
@@ -38,6 +41,22 @@ module _ (out w : List ℕ) where
     | yes h ↦ ap length (stored-sets out 0 w (omega arith)) ∙ length-sets out 0 w
     | no h ↦ ap length (kept (omega arith))
   ]
+
+-- no more is written than there is room for
+
+abbrev numberIn : Translated → ℕ
+numberIn (Done n) = n
+numberIn (Refused r) = 0
+
+within : (bytes room : ℕ) → numberIn (translatedFor bytes room) ≤ room
+unfolding translatedFor
+within bytes room = elim (decLe bytes room) [
+  | yes h ↦ rw (le-ltb room bytes h) h
+  | no h ↦ rw (lt-ltb room bytes (omega arith)) (omega arith)
+]
+
+pub done-fits : (bytes room n : ℕ) → translatedFor bytes room ≡ Done n → n ≤ room
+done-fits bytes room n e = subst (λ m. m ≤ room) (ap numberIn e) (within bytes room)
 
 -- a table and one that undoes it
 module _ (f g : ℕ → ℕ) (byte : (b : ℕ) → b < 256 → f b < 256) (back : (b : ℕ) → b < 256 → g (f b) ≡ b) where
