@@ -4,6 +4,7 @@
 // Usage: bench [SECONDS [FILE]]; the least times in the file, left there by the same program at other addresses, count too.
 #define _GNU_SOURCE
 #include "../include/p294.h"
+#include "../second/ebcdic.h"
 #include "headers.h"
 #include "logger.h"
 
@@ -16,7 +17,7 @@
 enum { LIBRARY, SECOND, PASS, RUNNERS };
 enum { MOST_ROWS = 40, MOST_NUMBERS = MOST_FAULTS * ENTRY_SIZE, SOME_CARDS = 16, CARD_CALLS = 512 };
 
-enum operation { CHECK, KEY, READ, PUT, LOG };
+enum operation { CHECK, KEY, READ, PUT, LOG, FROM_TAPE, TO_TAPE };
 
 // What is timed: an operation on a header, or on some cards of one code in turn; its least time by each, in ns a call.
 struct row {
@@ -37,6 +38,7 @@ static unsigned count;
 static uint32_t list[MOST_NUMBERS], second_list[MOST_NUMBERS];
 static int64_t numbers[P294_NUMBERS];
 static uint8_t logged[LOGGED_CARDS][CARD_SIZE], second_logged[LOGGED_CARDS][CARD_SIZE];
+static uint8_t translated[MOST_CARDS * CARD_SIZE], second_translated[MOST_CARDS * CARD_SIZE];
 static volatile int64_t sink;
 
 static void fail(const struct row *r, const char *what)
@@ -73,6 +75,8 @@ static void by_library(struct row *r)
                             P294_NUMBERS);
             break;
         case LOG: sink = log_by_library(logged); break;
+        case FROM_TAPE: sink = p294_from_ebcdic(h->at, h->size, translated, sizeof translated, numbers, P294_NUMBERS); break;
+        case TO_TAPE: sink = p294_to_ebcdic(h->at, h->size, translated, sizeof translated, numbers, P294_NUMBERS); break;
         default: sink = ask_library(r);
         }
     }
@@ -87,18 +91,21 @@ static struct defined ask_second(const struct row *r)
 
 static void by_second(struct row *r)
 {
+    const struct made *h = r->header;
     size_t faults;
     struct value v = {.kind = r->kind, .places = r->kind == VALUE_DECIMAL};
     for (size_t k = 0; k < r->calls; k++) {
         uint8_t *card = r->cards[k % SOME_CARDS];
         switch (r->operation) {
-        case CHECK: sink = check_ties(r->header->at, r->header->size, second_list, MOST_NUMBERS, &faults).number; break;
+        case CHECK: sink = check_ties(h->at, h->size, second_list, MOST_NUMBERS, &faults).number; break;
         case READ: sink = read_field(card, CARD_SIZE, r->field, 0, &v).number; break;
         case PUT:
             v.units = number_at(k);
             sink = put_value(card, CARD_SIZE, r->field, 0, &v).number;
             break;
         case LOG: sink = log_by_second(second_logged); break;
+        case FROM_TAPE: sink = to_ascii(h->at, h->size, second_translated, sizeof second_translated).number; break;
+        case TO_TAPE: sink = to_ebcdic(h->at, h->size, second_translated, sizeof second_translated).number; break;
         default: sink = (int64_t)ask_second(r).number;
         }
     }
@@ -183,6 +190,15 @@ static void hold_key(struct row *r)
         fail(r, "the answers differ or a key is not there once");
 }
 
+static void hold_tape(struct row *r)
+{
+    by_library(r);
+    int64_t said = sink;
+    by_second(r);
+    if (said != (int64_t)r->header->size || sink != 0 || memcmp(translated, second_translated, sizeof translated) != 0)
+        fail(r, "the translations differ");
+}
+
 static void hold(struct row *r)
 {
     if (r->operation == CHECK)
@@ -195,6 +211,8 @@ static void hold(struct row *r)
         hold_log(r);
     if (r->operation == KEY)
         hold_key(r);
+    if (r->operation == FROM_TAPE || r->operation == TO_TAPE)
+        hold_tape(r);
 }
 
 // The rows.
@@ -298,6 +316,8 @@ static void make_rows(void)
     check_row("check: 50 faults", make_faulty, MOST_CARDS, 50);
     check_row("check: refused at the last column of the last card", make_late, MOST_CARDS, -P294_NO_FIELD_HERE);
     card_rows(grown[CLEAN].rows[SIZES - 1]->header);
+    new_row("tape translated to ASCII", FROM_TAPE)->header = grown[CLEAN].rows[SIZES - 1]->header;
+    new_row("header translated to EBCDIC", TO_TAPE)->header = grown[CLEAN].rows[SIZES - 1]->header;
 }
 
 // Time.

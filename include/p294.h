@@ -14,7 +14,7 @@
  * refused by a number. The same holds of every number that goes in. What is asked of the caller is what C always asks:
  * - a pointer points to as many bytes or numbers as its length says, of its type, aligned for it, and for no more than
  *   2^63 - 1 bytes; it is not null, also where the length is 0;
- * - what a function may write (card, list, numbers) overlaps nothing else that the same call is lent, and nobody else
+ * - what a function may write (card, list, out, numbers) overlaps nothing else that the same call is lent, and nobody else
  *   reads or writes it meanwhile.
  *
  * HOW A FUNCTION ANSWERS. Each returns one number, and writes three more:
@@ -23,7 +23,7 @@
  *     int64_t said = p294_read_field(card, 80, 1, 0, numbers, P294_NUMBERS);
  *
  * - said < 0: refused. -said is the refusal's number, and numbers are that number, the card and the column (each 0 where
- *   there is none). Nothing else was written: card and list are as they were.
+ *   there is none). Nothing else was written: card, list and out are as they were.
  * - said >= 0: answered. What said and numbers mean stands at the function; numbers that are not mentioned are 0.
  *
  * numbers[0] to numbers[2] are written, and nothing behind them. Where the lent numbers are fewer than three (`room` is
@@ -62,7 +62,8 @@ enum {
     P294_NEEDED = 11,       /* a needed field is blank, or would be after a put; its first column */
     P294_OTHER_KIND = 12,   /* put: a value of another kind than the field; column 0 */
     P294_NO_SUCH = 13,      /* no field with this number in this code, or no such class of keys; card and column 0 */
-    P294_NO_ROOM = 14       /* put: does not fit the columns; column 0 */
+    P294_NO_ROOM = 14,      /* put: does not fit the columns; column 0 */
+    P294_NO_OUTPUT = 17     /* the output has too little room; card and column 0 */
 };
 
 /* Kinds of value, with the numbers that go with each. */
@@ -144,6 +145,12 @@ enum { P294_KEY_WHOLE = 1, P294_KEY_PAIR = 2, P294_KEY_TEXT = 3 };
  * Refused as p294_check refuses the header, then 13 (no such class). */
 int64_t p294_key(const uint8_t *header, size_t length, uint64_t key_class, size_t kind, int64_t a, int64_t b,
                  const uint8_t *text, size_t text_length, int64_t *numbers, size_t room);
+
+/* Translates a tape in EBCDIC to ASCII, and a text to EBCDIC, both by IBM code page 037. Any bytes and any length translate,
+ * 0 too; one undoes the other. said is the number of bytes written, which is length; what out has behind them stays. Refused
+ * 17 where out_length is less than length. */
+int64_t p294_from_ebcdic(const uint8_t *tape, size_t length, uint8_t *out, size_t out_length, int64_t *numbers, size_t room);
+int64_t p294_to_ebcdic(const uint8_t *text, size_t length, uint8_t *out, size_t out_length, int64_t *numbers, size_t room);
 
 #ifdef __cplusplus
 }
