@@ -5,6 +5,7 @@
 #define _GNU_SOURCE
 #include "../include/p294.h"
 #include "../second/ebcdic.h"
+#include "../second/media.h"
 #include "headers.h"
 #include "logger.h"
 
@@ -17,7 +18,8 @@
 enum { LIBRARY, SECOND, PASS, RUNNERS };
 enum { MOST_ROWS = 40, MOST_NUMBERS = MOST_FAULTS * ENTRY_SIZE, SOME_CARDS = 16, CARD_CALLS = 512 };
 
-enum operation { CHECK, KEY, READ, PUT, LOG, FROM_TAPE, TO_TAPE };
+enum operation { CHECK, KEY, READ, PUT, LOG, FROM_TAPE, TO_TAPE, TO_DISK, FROM_DISK };
+enum { MOST_FILE = MOST_CARDS * P294_LINE };
 
 // What is timed: an operation on a header, or on some cards of one code in turn; its least time by each, in ns a call.
 struct row {
@@ -39,6 +41,8 @@ static uint32_t list[MOST_NUMBERS], second_list[MOST_NUMBERS];
 static int64_t numbers[P294_NUMBERS];
 static uint8_t logged[LOGGED_CARDS][CARD_SIZE], second_logged[LOGGED_CARDS][CARD_SIZE];
 static uint8_t translated[MOST_CARDS * CARD_SIZE], second_translated[MOST_CARDS * CARD_SIZE];
+static uint8_t out[MOST_FILE], second_out[MOST_FILE], disk[MOST_FILE];
+static size_t disk_size;
 static volatile int64_t sink;
 
 static void fail(const struct row *r, const char *what)
@@ -77,6 +81,8 @@ static void by_library(struct row *r)
         case LOG: sink = log_by_library(logged); break;
         case FROM_TAPE: sink = p294_from_ebcdic(h->at, h->size, translated, sizeof translated, numbers, P294_NUMBERS); break;
         case TO_TAPE: sink = p294_to_ebcdic(h->at, h->size, translated, sizeof translated, numbers, P294_NUMBERS); break;
+        case TO_DISK: sink = p294_to_disk(h->at, h->size, out, MOST_FILE, numbers, P294_NUMBERS); break;
+        case FROM_DISK: sink = p294_from_disk(disk, disk_size, out, MOST_FILE, numbers, P294_NUMBERS); break;
         default: sink = ask_library(r);
         }
     }
@@ -106,6 +112,8 @@ static void by_second(struct row *r)
         case LOG: sink = log_by_second(second_logged); break;
         case FROM_TAPE: sink = to_ascii(h->at, h->size, second_translated, sizeof second_translated).number; break;
         case TO_TAPE: sink = to_ebcdic(h->at, h->size, second_translated, sizeof second_translated).number; break;
+        case TO_DISK: sink = to_disk(r->header->at, r->header->size, second_out, MOST_FILE, &faults).number; break;
+        case FROM_DISK: sink = from_disk(disk, disk_size, second_out, MOST_FILE, &faults).number; break;
         default: sink = (int64_t)ask_second(r).number;
         }
     }
@@ -199,8 +207,19 @@ static void hold_tape(struct row *r)
         fail(r, "the translations differ");
 }
 
+static void hold_disk(struct row *r)
+{
+    by_library(r);
+    int64_t said = sink;
+    by_second(r);
+    if (said <= 0 || sink != 0 || memcmp(out, second_out, (size_t)said) != 0)
+        fail(r, "the answers differ");
+}
+
 static void hold(struct row *r)
 {
+    if (r->operation == TO_DISK || r->operation == FROM_DISK)
+        hold_disk(r);
     if (r->operation == CHECK)
         hold_check(r);
     for (size_t k = 0; r->operation == READ && k < SOME_CARDS; k++)
@@ -279,6 +298,14 @@ static void card_rows(const struct made *h)
     new_row("a logger's start: 5,000 puts over 300 cards", LOG);
 }
 
+// A header to a diskette file, and that file back.
+static void disk_rows(const struct made *h)
+{
+    to_disk(h->at, h->size, disk, MOST_FILE, &disk_size);
+    new_row("to diskette", TO_DISK)->header = h;
+    new_row("from diskette", FROM_DISK)->header = h;
+}
+
 // Headers of growing size.
 static const unsigned sizes[] = {100, 200, 400, 800};
 enum { SIZES = 4 };
@@ -318,6 +345,7 @@ static void make_rows(void)
     card_rows(grown[CLEAN].rows[SIZES - 1]->header);
     new_row("tape translated to ASCII", FROM_TAPE)->header = grown[CLEAN].rows[SIZES - 1]->header;
     new_row("header translated to EBCDIC", TO_TAPE)->header = grown[CLEAN].rows[SIZES - 1]->header;
+    disk_rows(grown[CLEAN].rows[SIZES - 1]->header);
 }
 
 // Time.
@@ -456,6 +484,16 @@ static void log_to_library(void)
     sink = log_by_library(logged);
 }
 
+static void disk_by_library(void)
+{
+    sink = p294_to_disk(deep->at, deep->size, out, MOST_FILE, numbers, P294_NUMBERS);
+}
+
+static void file_by_library(void)
+{
+    sink = p294_from_disk(disk, disk_size, out, MOST_FILE, numbers, P294_NUMBERS);
+}
+
 // The bytes from the top of a painted stack down to the lowest that a call wrote.
 static size_t depth_of(void (*call)(void))
 {
@@ -488,6 +526,8 @@ static void print_stack(void)
     printf("| p294_key, 800 cards | %zu |\n", depth_of(question_to_library) - without);
     printf("| 5,000 calls of p294_put and p294_put_text, every kind of value, and the loop that makes them | %zu |\n",
            depth_of(log_to_library) - without);
+    printf("| p294_to_disk, 800 cards | %zu |\n", depth_of(disk_by_library) - without);
+    printf("| p294_from_disk, 800 lines | %zu |\n", depth_of(file_by_library) - without);
     printf("| the second implementation's check | %zu |\n", depth_of(check_by_second) - without);
 }
 

@@ -42,8 +42,8 @@ extern "C" {
 #endif
 
 /* How many numbers go with an answer, and how many an entry of the list of faults has; the bytes of a card and of a code;
- * the most cards of a header. */
-enum { P294_NUMBERS = 3, P294_ENTRY = 4, P294_CARD = 80, P294_CODE = 5, P294_CARDS = 800 };
+ * the most cards of a header; the most bytes of a card's line in a diskette file. */
+enum { P294_NUMBERS = 3, P294_ENTRY = 4, P294_CARD = 80, P294_CODE = 5, P294_CARDS = 800, P294_LINE = 82 };
 
 /* Refusals. On a single card the card is 1, but card and column are 0 for 1, 2, 13 and a refused form. */
 enum {
@@ -63,6 +63,8 @@ enum {
     P294_OTHER_KIND = 12,   /* put: a value of another kind than the field; column 0 */
     P294_NO_SUCH = 13,      /* no field with this number in this code, or no such class of keys; card and column 0 */
     P294_NO_ROOM = 14,      /* put: does not fit the columns; column 0 */
+    P294_LINE_LENGTH = 15,  /* a line of a diskette file has more than 80 characters; the line and the place of the 81st */
+    P294_LINE_END = 16,     /* CR or LF stands alone, at its line and place; or the last line has no CR LF, just past it */
     P294_NO_OUTPUT = 17     /* the output has too little room; card and column 0 */
 };
 
@@ -145,6 +147,18 @@ enum { P294_KEY_WHOLE = 1, P294_KEY_PAIR = 2, P294_KEY_TEXT = 3 };
  * Refused as p294_check refuses the header, then 13 (no such class). */
 int64_t p294_key(const uint8_t *header, size_t length, uint64_t key_class, size_t kind, int64_t a, int64_t b,
                  const uint8_t *text, size_t text_length, int64_t *numbers, size_t room);
+
+/* A header as a diskette file: a line for each card, its trailing blanks dropped, CR LF behind it. said is the length written;
+ * out holds the file from its front on, and behind it what it held before. P294_LINE bytes a card are always enough. Any 1 to
+ * 800 cards of printable bytes are converted: codes, labels and order are not looked at. Refused 1, 2, 3, 4, 17. */
+int64_t p294_to_disk(const uint8_t *header, size_t length, uint8_t *out, size_t out_length, int64_t *numbers, size_t room);
+
+/* A diskette file as a header: a card for each line, blanks behind its characters; an empty line is a blank card. said is the
+ * length written, at most P294_CARDS * P294_CARD; out as for p294_to_disk. Refused 1; then the first of 4, 15 and 16, with the
+ * line (also one above 800) and the place in it; then 3 for more than 800 lines, then 17.
+ * Cards come back from a diskette file byte for byte; a file comes back from cards without the blanks at the ends of its
+ * lines, and in no more bytes than it had. */
+int64_t p294_from_disk(const uint8_t *file, size_t length, uint8_t *out, size_t out_length, int64_t *numbers, size_t room);
 
 /* Translates a tape in EBCDIC to ASCII, and a text to EBCDIC, both by IBM code page 037. Any bytes and any length translate,
  * 0 too; one undoes the other. said is the number of bytes written, which is length; what out has behind them stays. Refused

@@ -1,5 +1,5 @@
-// Compares libp294.a with the second implementation on random and damaged cards and headers, and on tapes.
-// Usage: compare SEED CARDS HEADERS TIES TAPES
+// Compares libp294.a with the second implementation on random and damaged cards, headers and diskette files, and on tapes.
+// Usage: compare SEED CARDS HEADERS TIES FILES TAPES
 #include "compare.h"
 
 #include <stdio.h>
@@ -72,14 +72,15 @@ void hold_list(const struct input *in, const uint32_t *should, const uint32_t *i
 
 int main(int argc, char **argv)
 {
-    if (argc != 6) {
-        fprintf(stderr, "usage: compare SEED CARDS HEADERS TIES TAPES\n");
+    if (argc != 7) {
+        fprintf(stderr, "usage: compare SEED CARDS HEADERS TIES FILES TAPES\n");
         return 2;
     }
     uint64_t seed = strtoull(argv[1], NULL, 10);
     int missing = compare_cards(seed, strtoul(argv[2], NULL, 10));
     missing |= compare_headers(seed, strtoul(argv[3], NULL, 10));
     missing |= compare_ties(seed, strtoul(argv[4], NULL, 10));
-    missing |= compare_tapes(seed, strtoul(argv[5], NULL, 10));
+    missing |= compare_media(seed, strtoul(argv[5], NULL, 10));
+    missing |= compare_tapes(seed, strtoul(argv[6], NULL, 10));
     return missing ? EXIT_FAILURE : EXIT_SUCCESS;
 }
