@@ -1,0 +1,4 @@
+pub mod Moved
+pub mod Spelled
+pub mod Rows
+pub mod Marked
