@@ -43,6 +43,13 @@ pub const NO_LINE_END: usize = 16;
 // Of an output that a caller lends: no room in it.
 pub const NO_OUTPUT: usize = 17;
 
+// Of a volume: no such number of cards or no trailer that points back, a directory that does not cover the headers, no room for more.
+pub const NO_TRAILER: usize = 18;
+
+pub const NO_DIRECTORY: usize = 19;
+
+pub const NO_CARDS_LEFT: usize = 20;
+
 // A refusal's number, card and column: 0 for a card or a column where there is none.
 pub struct Refusal {
     pub number: usize,

@@ -10,7 +10,7 @@ use Rattle.volume_form.specs.declared.Form.{Form}
 use Rattle.volume_form.specs.declared.Form.the-variants.{Old}
 use Rattle.volume_form.specs.Spelled.{spelled, standing}
 use Rattle.volume_form.specs.Rows.{Row, rowOf}
-use Rattle.volume_form.specs.Marked.{nameOf, sequenceOf, fielded, padded, entryCard, trailerCard, countOn, firstOn}
+use Rattle.volume_form.specs.Marked.{nameOf, sequenceOf, fielded, padded, entryCard, trailerCard, countOn, firstOn, startOn}
 use Rattle.volume_form.proofs.Spelling.{standing-spelled, length-spelled}
 
 -- what the laws ask of a row
@@ -28,6 +28,11 @@ is-old Old = refl
 pub good-row : (f : Form) → Good (rowOf f)
 unfolding rowOf
 good-row Old = record { entry5 = refl; trailer5 = refl; some = omega arith; narrow = omega arith; roomy = omega arith }
+
+-- no form has more cards than a machine can count
+pub most-small : (f : Form) → rowOf f .most ≤ 20000
+unfolding rowOf
+most-small Old = omega arith
 
 -- the field behind p and a blank
 field-at : (p s q : List ℕ) (n w : ℕ) → length p + 1 ≡ n → length s ≡ w → take w (drop n ((p ++ (32 ∷ s)) ++ q)) ≡ s
@@ -104,6 +109,23 @@ module _ (f : Row) (good : Good f) (at n : ℕ) (at-small : at < 10 ^ f .width) 
     count-entry =
         ap standing (field-at before (spelled (f .width) n) _ (29 + f .width) (f .width) (omega (arith, before-long)) n-long)
         ∙ standing-spelled (f .width) n (small (f .width) n (good .narrow) n-small)
+
+    front : List ℕ
+    front = fielded (f .entry) (nameOf h ∷ sequenceOf h ∷ [])
+
+    front-long : length front ≡ 27
+    unfolding front fielded
+    front-long =
+        let a = length-field (f .entry) (nameOf h) 5 16 (good .entry5) (length-name h long) in
+        length-field (f .entry ++ (32 ∷ nameOf h)) (sequenceOf h) _ 4 a (length-sequence h long)
+
+    -- the first card that a directory card tells
+    pub start-entry : startOn f (entryCard f h at n) ≡ at
+    unfolding startOn entryCard front fielded padded
+    start-entry =
+        ap (λ l. standing (take (f .width) (drop 28 l))) (append-assoc (front ++ (32 ∷ spelled (f .width) at)) (32 ∷ spelled (f .width) n) _)
+        ∙ ap standing (field-at front (spelled (f .width) at) _ 28 (f .width) (ap (λ k. k + 1) front-long) at-long)
+        ∙ standing-spelled (f .width) at (small (f .width) at (good .narrow) at-small)
 
 -- the directory copies from the first card alone: whatever follows it
 pub entry-longer : (f : Row) (h x : List ℕ) (at n : ℕ) → 80 ≤ length h → entryCard f (h ++ x) at n ≡ entryCard f h at n

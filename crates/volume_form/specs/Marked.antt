@@ -28,7 +28,11 @@ entryCard f h at n = padded (fielded (f .entry) (nameOf h ∷ sequenceOf h ∷ s
 unfoldable pub trailerCard : Row → ℕ → ℕ → List ℕ
 trailerCard f at n = padded (fielded (f .trailer) (spelled (f .width) at ∷ spelled (f .width) n ∷ []))
 
--- the number that stands on a card where a directory card has its number of cards, and where a trailer has its first card
+-- the numbers that stand on a card, whatever stands there: where a directory card has its first card and its number of cards, and
+-- where a trailer has its first directory card
+unfoldable pub startOn : Row → List ℕ → ℕ
+startOn f card = standing (take (f .width) (drop 28 card))
+
 unfoldable pub countOn : Row → List ℕ → ℕ
 countOn f card = standing (take (f .width) (drop (29 + f .width) card))
 

@@ -1,6 +1,13 @@
 // The cards of a volume that are no header's, built whole: writing lays them into the buffer, and judging compares them with what
 // stands there.
+use crate::FIRST;
 use crate::Form;
+use crate::NAME;
+use crate::NAME_END;
+use crate::NUMBERS;
+use crate::SECOND;
+use crate::SEQUENCE;
+use crate::SEQUENCE_END;
 use crate::moving;
 use base_digits::filling;
 use format_layout::BLANK;
@@ -42,8 +49,8 @@ fn named(card: [u8; CARD], header: &[u8]) -> [u8; CARD]
     ensures { λ r. ⌜ r ≡ laidAt (laidAt card 6 (nameOf (now (header .entry)))) 23 (sequenceOf (now (header .entry))) ⌝ }
 {
     let mut next = card;
-    moving::lay(&mut next, 6, &header[28..44]);
-    moving::lay(&mut next, 23, &header[45..49]);
+    moving::lay(&mut next, FIRST, &header[NAME..NAME_END]);
+    moving::lay(&mut next, SECOND, &header[SEQUENCE..SEQUENCE_END]);
     next
 }
 
@@ -65,7 +72,7 @@ pub fn entry_card(form: Form, header: &[u8], at: u64, n: u64) -> [u8; CARD]
 {
     let width = crate::width_of(form);
     let card = coded(crate::entry_code(form));
-    numbered(named(card, header), 28, width, at, n)
+    numbered(named(card, header), NUMBERS, width, at, n)
 }
 
 // The trailer of a volume whose first directory card is the card `at`.
@@ -75,5 +82,5 @@ pub fn trailer_card(form: Form, at: u64, n: u64) -> [u8; CARD]
 {
     let width = crate::width_of(form);
     let card = coded(crate::trailer_code(form));
-    numbered(card, 6, width, at, n)
+    numbered(card, FIRST, width, at, n)
 }

@@ -1,10 +1,28 @@
 // The forms of a volume, one row of a table each, and the cards that are no header's.
 pub mod building;
 pub mod moving;
+pub mod reading;
 
 ghost use mathlib.Core.Path.{_≡_};
 ghost use Prim.Native.Nat.{_≤_};
 ghost use Rattle.volume_form.specs.Rows.{rowOf};
+
+// The columns of a line's name and sequence number on its first card, from 0.
+pub const NAME: usize = 28;
+
+pub const NAME_END: usize = 44;
+
+pub const SEQUENCE: usize = 45;
+
+pub const SEQUENCE_END: usize = 49;
+
+// Where the first field of a directory card or trailer begins, where a directory card has the sequence number, and where its numbers
+// begin.
+pub const FIRST: usize = 6;
+
+pub const SECOND: usize = 23;
+
+pub const NUMBERS: usize = 28;
 
 // The forms of a volume.
 pub enum Form {

@@ -19,12 +19,13 @@ use Rattle.volume_rules.specs.Sound.{points, covers, headersIn, lastCard
 use Rattle.volume_form.proofs.Cards.{Good, length-trailer, first-trailer}
 use Rattle.volume_rules.proofs.Covering.{cards-of, covered, back, Back}
 
-record Pointed (f : Row) (n at : ℕ) (t : List ℕ) : Type 0 where
+-- a trailer that points back
+pub record Pointed (f : Row) (n at : ℕ) (t : List ℕ) : Type 0 where
   pub least : 1 ≤ at
   pub within : at ≤ n
   pub is : t ≡ trailerCard f at (n - at)
 
-pointed : (f : Row) (n : ℕ) (t : List ℕ) → points f n t ≡ true → Pointed f n (firstOn f t) t
+pub pointed : (f : Row) (n : ℕ) (t : List ℕ) → points f n t ≡ true → Pointed f n (firstOn f t) t
 unfolding points
 pointed f n t e =
     let at : ℕ = firstOn f t in
@@ -47,7 +48,7 @@ parts v n at l h g =
     ap (λ r. take p v ++ (take q (drop p v) ++ r)) a ∙ ap (λ r. take p v ++ r) (take-append-drop q (drop p v)) ∙ take-append-drop p v
 
 module _ (f : Row) (n : ℕ) (v : List ℕ) (l : length v ≡ 80 * n) where
-  body-long : 1 ≤ firstOf f n v → firstOf f n v ≤ n → length (bodyOf f n v) ≡ 80 * (firstOf f n v - 1)
+  pub body-long : 1 ≤ firstOf f n v → firstOf f n v ≤ n → length (bodyOf f n v) ≡ 80 * (firstOf f n v - 1)
   unfolding bodyOf
   body-long h g = length-take-le (80 * (firstOf f n v - 1)) v (omega arith)
 
@@ -64,7 +65,8 @@ module _ (f : Row) (n : ℕ) (v : List ℕ) (l : length v ≡ 80 * n) where
   point-first e = pointed f n (lastCard n v) e
 
   -- n sound cards are the volume of the headers that they tell
-  pub sound-volume : sound f n v ≡ true → (volumeOf f (headersOf f n v) ≡ v) × Wholes (headersOf f n v)
+  pub sound-volume : sound f n v ≡ true
+      → (volumeOf f (headersOf f n v) ≡ v) × Wholes (headersOf f n v) × (n ≡ cardsIn (joined (headersOf f n v)) + length (headersOf f n v) + 1)
   unfolding sound headersOf volumeOf
   sound-volume e =
       let t : List ℕ = lastCard n v in
@@ -84,6 +86,7 @@ module _ (f : Row) (n : ℕ) (v : List ℕ) (l : length v ≡ 80 * n) where
             ∙ ap (λ p. b ++ (d ++ p)) (sym (x .is))
             ∙ whole (x .least) (x .within),
         r .wholes,
+        omega (arith, c, r .number, x .least, x .within),
       )
 
 -- the parts of three parts
@@ -134,11 +137,11 @@ module _ (f : Row) (good : Good f) (hs : List (List ℕ)) (ws : Wholes hs) (fits
   unfolding lastCard volumeOf
   last-is = let e : c + k + 1 - 1 ≡ c + k = omega arith in rw e (three-last (joined hs) (directory f 1 hs) t c k (r .whole) (r .long) t-long)
 
-  first-is : firstOf f (c + k + 1) (volumeOf f hs) ≡ (1 + c)
+  pub first-is : firstOf f (c + k + 1) (volumeOf f hs) ≡ (1 + c)
   unfolding firstOf
   first-is = ap (firstOn f) last-is ∙ first-trailer f good (1 + c) k at-small k-small
 
-  body-is : bodyOf f (c + k + 1) (volumeOf f hs) ≡ joined hs
+  pub body-is : bodyOf f (c + k + 1) (volumeOf f hs) ≡ joined hs
   unfolding bodyOf volumeOf
   body-is =
       let e : (1 + c) - 1 ≡ c = omega arith in
@@ -146,7 +149,7 @@ module _ (f : Row) (good : Good f) (hs : List (List ℕ)) (ws : Wholes hs) (fits
       ∙ ap (λ m. take (80 * m) (volumeOf f hs)) e
       ∙ three-body (joined hs) (directory f 1 hs) t c k (r .whole) (r .long) t-long
 
-  directory-is : directoryOf f (c + k + 1) (volumeOf f hs) ≡ directory f 1 hs
+  pub directory-is : directoryOf f (c + k + 1) (volumeOf f hs) ≡ directory f 1 hs
   unfolding directoryOf volumeOf
   directory-is =
       let e : (1 + c) - 1 ≡ c = omega arith in
@@ -155,7 +158,7 @@ module _ (f : Row) (good : Good f) (hs : List (List ℕ)) (ws : Wholes hs) (fits
       ∙ ap₂ (λ m p. take (80 * m) (drop (80 * p) (volumeOf f hs))) g e
       ∙ three-directory (joined hs) (directory f 1 hs) t c k (r .whole) (r .long) t-long
 
-  number-is : c + k + 1 - firstOf f (c + k + 1) (volumeOf f hs) ≡ k
+  pub number-is : c + k + 1 - firstOf f (c + k + 1) (volumeOf f hs) ≡ k
   number-is = omega (arith, first-is)
 
   points-is : points f (c + k + 1) t ≡ true

@@ -5,4 +5,5 @@ pub mod Latest
 pub mod Promises
 pub mod Packing
 pub mod Lines
+pub mod Judging
 pub mod Examples

@@ -2,7 +2,7 @@
 use Prim.Native.Nat.{ℕ, _+_, _*_, _≤_}
 use mathlib.Core.Path.{_≡_}
 use mathlib.Core.List.{List, [], _∷_, _++_}
-use lib.ListN.{length}
+use lib.ListN.{length, take}
 use Rattle.header_check.specs.forms.Cards.{cardsIn}
 use Rattle.volume_form.specs.Rows.{Row}
 use Rattle.volume_form.specs.Marked.{entryCard, trailerCard}
@@ -11,6 +11,10 @@ use Rattle.volume_form.specs.Marked.{entryCard, trailerCard}
 unfoldable pub joined : List (List ℕ) → List ℕ
 joined [] = []
 joined (h ∷ hs) = h ++ joined hs
+
+-- how many cards stand before the header at a place, from 0
+unfoldable pub before : List (List ℕ) → ℕ → ℕ
+before hs p = cardsIn (joined (take p hs))
 
 -- a directory card for each, the first card of the first having the number `at`
 unfoldable pub directory : Row → ℕ → List (List ℕ) → List ℕ
