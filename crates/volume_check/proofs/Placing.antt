@@ -19,11 +19,11 @@ use Rattle.volume_form.specs.Marked.{nameOf, sequenceOf, trailerCard, countOn, 
 use Rattle.volume_form.proofs.Cards.{Good, start-entry, count-entry}
 use Rattle.volume_rules.specs.Volume.{joined, before, directory, volumeOf, Whole, Wholes}
 use Rattle.volume_rules.specs.Sound.{firstOf, directoryOf, headersOf}
-use Rattle.volume_rules.specs.Judged.{volumeAnswer}
+use Rattle.volume_rules.specs.Judged.{volumeAnswer, Holds}
 use Rattle.volume_rules.proofs.Promises.{total}
 use Rattle.volume_rules.proofs.Covering.{back}
 use Rattle.volume_rules.proofs.Exactly.{directory-is}
-use Rattle.volume_rules.proofs.Judging.{Volume, Sounds, sounds, accepted-volume, taken-wholes}
+use Rattle.volume_rules.proofs.Judging.{Sounds, sounds, accepted-volume, taken-wholes}
 use Rattle.volume_rules.proofs.Lines.{line-part, line-whole, line-within, entry-at, headers-number}
 use Rattle.volume_check.proofs.judging.Headers.{part-long}
 use Rattle.volume_check.specs.declared.Found.{Found}
@@ -42,7 +42,7 @@ module _ (f : Row) (good : Good f) (n : ℕ) (buffer : List ℕ) (accepted : vol
   known : Sounds f good n buffer
   known = sounds f good n buffer accepted
 
-  is : Volume f n buffer hs
+  is : Holds f n buffer hs
   is = accepted-volume f good n buffer accepted
 
   ws : Wholes hs

@@ -22,12 +22,12 @@ use Rattle.volume_form.proofs.Cards.{Good, good-row, most-small, length-trailer
 use Rattle.volume_rules.specs.Volume.{joined, directory, volumeOf, Whole, Wholes}
 use Rattle.volume_rules.specs.Sound.{firstOf, headersOf}
 use Rattle.volume_rules.specs.Appended.{appended}
-use Rattle.volume_rules.specs.Judged.{unless, andThen, stated, headerAnswer, volumeAnswer, Accepteds}
+use Rattle.volume_rules.specs.Judged.{unless, andThen, stated, headerAnswer, volumeAnswer, Accepteds, Holds}
 use Rattle.volume_rules.proofs.Promises.{total}
 use Rattle.volume_rules.proofs.Covering.{back}
 use Rattle.volume_rules.proofs.Exactly.{first-is, volume-long}
 use Rattle.volume_rules.proofs.Appending.{appended-volume, joined-append, joined-cards}
-use Rattle.volume_rules.proofs.Judging.{Stated, stated-so, Volume, Taken, header-taken, then-passed, unless-passed, accepted-volume, taken-wholes}
+use Rattle.volume_rules.proofs.Judging.{Stated, stated-so, Taken, header-taken, then-passed, unless-passed, accepted-volume, taken-wholes}
 use Rattle.volume_check.specs.Steps as steps
 use Rattle.volume_check.proofs.Placing.{trailed, held, count-is}
 use Rattle.volume_check.proofs.judging.Parts.{least, before-last}
@@ -67,7 +67,7 @@ module _ (form : Form) (n : ℕ) (buffer h : List ℕ) (may : appendChecked (row
   new : Taken (rowOf form) h
   new = header-taken (rowOf form) h (m .header)
 
-  is : Volume (rowOf form) n buffer hs
+  is : Holds (rowOf form) n buffer hs
   is = accepted-volume (rowOf form) good n buffer (m .volume)
 
   ws : Wholes hs

@@ -34,6 +34,10 @@ pub most-small : (f : Form) → rowOf f .most ≤ 20000
 unfolding rowOf
 most-small Old = omega arith
 
+pub most-some : (f : Form) → 1 ≤ rowOf f .most
+unfolding rowOf
+most-some Old = omega arith
+
 -- the field behind p and a blank
 field-at : (p s q : List ℕ) (n w : ℕ) → length p + 1 ≡ n → length s ≡ w → take w (drop n ((p ++ (32 ∷ s)) ++ q)) ≡ s
 field-at p s q n w e l =

@@ -38,7 +38,7 @@ directory-append f at (g ∷ gs) hs ws =
     ∙ sym (append-assoc (entryCard f g at (cardsIn g)) (directory f (at + cardsIn g) gs) _)
     ∙ ap (λ k. (entryCard f g at (cardsIn g) ++ directory f (at + cardsIn g) gs) ++ directory f k hs) e
 
-only : (h : List ℕ) → joined (h ∷ []) ≡ h
+pub only : (h : List ℕ) → joined (h ∷ []) ≡ h
 unfolding joined
 only h = append-nil h
 
@@ -46,7 +46,7 @@ single : (f : Row) (at : ℕ) (h : List ℕ) → directory f at (h ∷ []) ≡ e
 unfolding directory
 single f at h = append-nil (entryCard f h at (cardsIn h))
 
-cards-sum : (b h : List ℕ) → length b ≡ 80 * cardsIn b → cardsIn (b ++ h) ≡ cardsIn b + cardsIn h
+pub cards-sum : (b h : List ℕ) → length b ≡ 80 * cardsIn b → cardsIn (b ++ h) ≡ cardsIn b + cardsIn h
 unfolding cardsIn
 cards-sum b h e = let q : length (b ++ h) ≡ length b + length h = length-append b h in omega arith
 

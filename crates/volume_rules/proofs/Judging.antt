@@ -20,7 +20,7 @@ use Rattle.volume_form.specs.Rows.{Row}
 use Rattle.volume_form.proofs.Cards.{Good}
 use Rattle.volume_rules.specs.Volume.{joined, directory, volumeOf, Whole, Wholes}
 use Rattle.volume_rules.specs.Sound.{points, covers, lastCard, firstOf, bodyOf, directoryOf, headersOf, sound}
-use Rattle.volume_rules.specs.Judged.{unless, andThen, stated, headerAnswer, headersAnswer, partsAnswer, cardsAnswer, volumeAnswer, Accepteds}
+use Rattle.volume_rules.specs.Judged.{unless, andThen, stated, headerAnswer, headersAnswer, partsAnswer, cardsAnswer, volumeAnswer, Accepteds, Holds}
 use Rattle.volume_rules.proofs.Exactly.{sound-volume, volume-sound, volume-told, volume-long}
 use Rattle.volume_rules.proofs.Promises.{total}
 
@@ -115,13 +115,6 @@ pub taken-wholes : (f : Row) (hs : List (List ℕ)) → Accepteds f hs → Whole
 taken-wholes f [] a = tt
 taken-wholes f (h ∷ hs) a = (header-taken f h (a .0) .whole, taken-wholes f hs (a .1))
 
--- n cards at the front of a buffer are the volume of some headers, each of them accepted
-pub record Volume (f : Row) (n : ℕ) (buffer : List ℕ) (hs : List (List ℕ)) : Type 0 where
-  pub bytes : take (80 * n) buffer ≡ volumeOf f hs
-  pub cards : n ≡ total hs
-  pub few : n ≤ f .most
-  pub accepted : Accepteds f hs
-
 module _ (f : Row) (good : Good f) (n : ℕ) (buffer : List ℕ) where
   abbrev v : List ℕ
   v = take (80 * n) buffer
@@ -148,14 +141,14 @@ module _ (f : Row) (good : Good f) (n : ℕ) (buffer : List ℕ) where
   both-true s = rw (s .points-well, s .covers-well)
 
   -- an accepted volume is the volume of the headers that it tells
-  pub accepted-volume : volumeAnswer f n buffer ≡ Accepted → Volume f n buffer (headersOf f n v)
+  pub accepted-volume : volumeAnswer f n buffer ≡ Accepted → Holds f n buffer (headersOf f n v)
   accepted-volume e =
       let s = sounds e in
       let r = sound-volume f n v (s .long) (both-true s) in
       let a = headers-taken f (headersOf f n v) (s .headers-well) in
       record { bytes = sym (r .0); cards = r .2; few = s .stated-well .few; accepted = a }
 
-  module _ (hs : List (List ℕ)) (is : Volume f n buffer hs) where
+  module _ (hs : List (List ℕ)) (is : Holds f n buffer hs) where
     ws : Wholes hs
     ws = taken-wholes f hs (is .accepted)
 

@@ -1,5 +1,5 @@
 -- What is said of a volume, a stated number of cards at the front of a buffer: 18, 19, then each header's own refusal in turn.
-use Prim.Native.Nat.{ℕ, _-_, _*_, _%_}
+use Prim.Native.Nat.{ℕ, _+_, _-_, _*_, _%_, _≤_}
 use mathlib.Core.Path.{_≡_}
 use mathlib.Core.Bool.{Bool, true, false, cond, _&&_}
 use mathlib.Core.List.{List, [], _∷_}
@@ -11,6 +11,7 @@ use Rattle.header_check.specs.declared.Checked.the-variants.{Accepted, Refused}
 use Rattle.header_check.specs.forms.Cards.{cardsIn}
 use Rattle.header_check.specs.Refusing.{refusalOf}
 use Rattle.volume_form.specs.Rows.{Row}
+use Rattle.volume_rules.specs.Volume.{joined, volumeOf}
 use Rattle.volume_rules.specs.Sound.{points, covers, lastCard, firstOf, bodyOf, directoryOf, headersOf}
 
 -- a refusal without card and column where a test fails, else what is said next
@@ -53,3 +54,10 @@ volumeAnswer f n buffer = unless (stated f n (cardsIn buffer)) 18 (cardsAnswer f
 abbrev pub Accepteds : Row → List (List ℕ) → Type 0
 Accepteds f [] = Unit {0}
 Accepteds f (h ∷ hs) = (headerAnswer f h ≡ Accepted) × Accepteds f hs
+
+-- n cards at the front of a buffer are the volume of some headers, each of them accepted
+pub record Holds (f : Row) (n : ℕ) (buffer : List ℕ) (hs : List (List ℕ)) : Type 0 where
+  pub bytes : take (80 * n) buffer ≡ volumeOf f hs
+  pub cards : n ≡ cardsIn (joined hs) + length hs + 1
+  pub few : n ≤ f .most
+  pub accepted : Accepteds f hs
