@@ -12,9 +12,12 @@ use media_diskette::Converted;
 use media_ebcdic::Translated;
 use tie_check::Ties;
 use tie_lookup::questions::Defined;
+use volume_check::Counted;
+use volume_check::Found;
+use volume_edit::Volume;
 ghost use mathlib.Core.Path.{_≡_};
 ghost use mathlib.Core.Bool.{false};
-ghost use Rattle.p294.specs.answers.Replies.{plain, refusedReply, doneReply, mark, valueReply, fieldReply, textAlone, enteredReply, openedReply, countReply, onlyReply, tiesReply, keyReply, convertedReply, translatedReply};
+ghost use Rattle.p294.specs.answers.Replies.{plain, refusedReply, doneReply, mark, valueReply, fieldReply, textAlone, enteredReply, openedReply, countReply, onlyReply, tiesReply, keyReply, convertedReply, translatedReply, linesReply, lineReply, volumeReply};
 
 // What the answer with a text says.
 const TEXT: i64 = 5;
@@ -245,5 +248,47 @@ pub fn of_translated(translated: Translated) -> Reply
     match translated {
         Translated::Done(n) => counted(n),
         Translated::Refused(r) => refused(r),
+    }
+}
+
+// How many lines a volume has.
+pub fn of_lines(lines: Counted) -> Reply
+    ensures { λ r. ⌜ r ≡ linesReply lines ⌝ }
+{
+    match lines {
+        Counted::Lines(n) => counted(n),
+        Counted::Refused(r) => refused(r),
+    }
+}
+
+// A line's cards.
+fn placed(first: usize, number: usize, entry: usize) -> Reply
+    ensures { λ r. ⌜ r ≡ lineReply (Found.Line first number entry) ⌝ }
+{
+    Reply {
+        said: plain_of(number),
+        first: plain_of(first),
+        second: plain_of(entry),
+        third: 0,
+    }
+}
+
+// Where a line of a volume stands.
+pub fn of_line(found: Found) -> Reply
+    ensures { λ r. ⌜ r ≡ lineReply found ⌝ }
+{
+    match found {
+        Found::Line(first, number, entry) => placed(first, number, entry),
+        Found::Refused(r) => refused(r),
+    }
+}
+
+// What came of writing to a volume.
+pub fn of_volume(volume: Volume) -> Reply
+    ensures { λ r. ⌜ r ≡ volumeReply volume ⌝ }
+{
+    match volume {
+        Volume::Cards(n) => counted(n),
+        Volume::Refused(r) => refused(r),
     }
 }

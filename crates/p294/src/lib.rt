@@ -6,7 +6,9 @@ pub mod offered;
 use crate::answers::Reply;
 use card_put::opening;
 ghost use mathlib.Core.Path.{_≡_};
-ghost use lib.ListN.{length};
+ghost use mathlib.Core.List.{[], _∷_, _++_};
+ghost use Prim.Native.Nat.{_*_};
+ghost use lib.ListN.{length, take};
 ghost use Rattle.base_lists.specs.Laid.{stored};
 ghost use Rattle.card_field.specs.Reading.{fieldReading};
 ghost use Rattle.card_put.specs.opening.Opening.{openedOf, openedCard};
@@ -18,8 +20,13 @@ ghost use Rattle.tie_rules.specs.Faults.{faults, entries};
 ghost use Rattle.tie_check.specs.Answer.{answerFor, listFor};
 ghost use Rattle.tie_lookup.specs.questions.Questions.{keyAnswer};
 ghost use Rattle.media_ebcdic.specs.Translating.{asciiFrom, ebcdicFrom, translatedFor};
+ghost use Rattle.volume_form.specs.declared.Form.the-variants.{Old};
+ghost use Rattle.volume_form.specs.Rows.{rowOf};
+ghost use Rattle.volume_rules.specs.Sound.{headersOf};
+ghost use Rattle.volume_check.specs.Answers.{linesOf, foundOf};
+ghost use Rattle.volume_edit.specs.Written.{emptyAnswer, appendAnswer, leftBy as volumeLeft};
 ghost use Rattle.p294.specs.offered.Offers.{offeredOf, keyOf, keyTextOf};
-ghost use Rattle.p294.specs.answers.Replies.{fieldReply, textReply, enteredReply, openedReply, tiesReply, keyReply, convertedReply, translatedReply};
+ghost use Rattle.p294.specs.answers.Replies.{fieldReply, textReply, enteredReply, openedReply, tiesReply, keyReply, convertedReply, translatedReply, linesReply, lineReply, volumeReply};
 ghost use Rattle.p294.specs.Given.{given};
 
 // How many numbers go with an answer.
@@ -221,5 +228,66 @@ pub extern "C" fn p294_to_ebcdic(text: &[u8], out: &mut [u8], numbers: &mut [i64
     ensures out { λ _. ⌜ now (out .exit) ≡ stored (now (out .entry)) 0 (ebcdicFrom (now (text .entry))) ⌝ }
 {
     let reply = answers::of_translated(media_ebcdic::to_ebcdic(text, out));
+    give(numbers, reply)
+}
+
+// The empty volume, laid into a buffer.
+#[no_mangle]
+pub extern "C" fn p294_volume_empty(buffer: &mut [u8], numbers: &mut [i64]) -> i64
+    ensures said { λ r. ⌜ r ≡ volumeReply (emptyAnswer (now (buffer .entry))) .said ⌝ }
+    ensures numbers { λ _. ⌜ now (numbers .exit) ≡ given (now (numbers .entry)) (volumeReply (emptyAnswer (now (buffer .entry)))) ⌝ }
+    ensures buffer { λ _. ⌜ now (buffer .exit) ≡ volumeLeft (rowOf Old) (emptyAnswer (now (buffer .entry))) [] (now (buffer .entry)) ⌝ }
+{
+    let reply = answers::of_volume(volume_edit::lay_empty(buffer));
+    give(numbers, reply)
+}
+
+// How many lines a volume has.
+#[no_mangle]
+pub extern "C" fn p294_volume_lines(volume: &[u8], cards: usize, numbers: &mut [i64]) -> i64
+    ensures said { λ r. ⌜ r ≡ linesReply (linesOf (rowOf Old) cards (now (volume .entry))) .said ⌝ }
+    ensures numbers { λ _. ⌜ now (numbers .exit)
+        ≡ given (now (numbers .entry)) (linesReply (linesOf (rowOf Old) cards (now (volume .entry)))) ⌝ }
+{
+    give(
+        numbers,
+        answers::of_lines(volume_check::lines(volume, cards)),
+    )
+}
+
+// Where the line at a place of a volume stands.
+#[no_mangle]
+pub extern "C" fn p294_volume_line(
+    volume: &[u8],
+    cards: usize,
+    place: usize,
+    numbers: &mut [i64],
+) -> i64
+    ensures said { λ r. ⌜ r ≡ lineReply (foundOf (rowOf Old) cards (now (volume .entry)) place) .said ⌝ }
+    ensures numbers { λ _. ⌜ now (numbers .exit)
+        ≡ given (now (numbers .entry)) (lineReply (foundOf (rowOf Old) cards (now (volume .entry)) place)) ⌝ }
+{
+    give(
+        numbers,
+        answers::of_line(volume_check::find_line(volume, cards, place)),
+    )
+}
+
+// A header appended to a volume.
+#[no_mangle]
+pub extern "C" fn p294_volume_append(
+    buffer: &mut [u8],
+    cards: usize,
+    header: &[u8],
+    numbers: &mut [i64],
+) -> i64
+    ensures said { λ r. ⌜ r ≡ volumeReply (appendAnswer (rowOf Old) cards (now (buffer .entry)) (now (header .entry))) .said ⌝ }
+    ensures numbers { λ _. ⌜ now (numbers .exit)
+        ≡ given (now (numbers .entry)) (volumeReply (appendAnswer (rowOf Old) cards (now (buffer .entry)) (now (header .entry)))) ⌝ }
+    ensures buffer { λ _. ⌜ now (buffer .exit)
+        ≡ volumeLeft (rowOf Old) (appendAnswer (rowOf Old) cards (now (buffer .entry)) (now (header .entry)))
+        (headersOf (rowOf Old) cards (take (80 * cards) (now (buffer .entry))) ++ (now (header .entry) ∷ [])) (now (buffer .entry)) ⌝ }
+{
+    let reply = answers::of_volume(volume_edit::append(buffer, cards, header));
     give(numbers, reply)
 }

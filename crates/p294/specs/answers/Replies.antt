@@ -22,6 +22,12 @@ use Rattle.tie_lookup.specs.declared.questions.Defined.{Defined}
 use Rattle.tie_lookup.specs.declared.questions.Defined.the-variants as defined
 use Rattle.media_ebcdic.specs.declared.Translated.{Translated}
 use Rattle.media_ebcdic.specs.declared.Translated.the-variants as translated
+use Rattle.volume_check.specs.declared.Counted.{Counted}
+use Rattle.volume_check.specs.declared.Counted.the-variants as counted
+use Rattle.volume_check.specs.declared.Found.{Found}
+use Rattle.volume_check.specs.declared.Found.the-variants as found
+use Rattle.volume_edit.specs.declared.Volume.{Volume}
+use Rattle.volume_edit.specs.declared.Volume.the-variants as volume
 use Rattle.p294.specs.declared.answers.Reply.{Reply}
 
 abbrev pub reply : ℤ → ℤ → ℤ → ℤ → Reply
@@ -116,3 +122,18 @@ convertedReply (converted.Refused r) = refusedReply r
 unfoldable pub translatedReply : Translated → Reply
 translatedReply (translated.Done n) = countReply n
 translatedReply (translated.Refused r) = refusedReply r
+
+-- a volume's lines: how many, or its refusal
+unfoldable pub linesReply : Counted → Reply
+linesReply (counted.Lines n) = countReply n
+linesReply (counted.Refused r) = refusedReply r
+
+-- a line of a volume: how many cards it has, its first card, its directory card; or the refusal
+unfoldable pub lineReply : Found → Reply
+lineReply (found.Line first number entry) = reply (plain number) (plain first) (plain entry) (pos 0)
+lineReply (found.Refused r) = refusedReply r
+
+-- writing to a volume: how many cards it now has, or the refusal
+unfoldable pub volumeReply : Volume → Reply
+volumeReply (volume.Cards n) = countReply n
+volumeReply (volume.Refused r) = refusedReply r
