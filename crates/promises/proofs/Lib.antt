@@ -4,4 +4,5 @@ pub mod Lists
 pub mod Taken
 pub mod Media
 pub mod Ebcdic
+pub mod Volumes
 pub mod Promises

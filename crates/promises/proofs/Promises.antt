@@ -9,6 +9,9 @@ use mathlib.Core.List.{List, [], _∷_, _++_, map, flatMap, List·Memᴰ}
 use lib.ListN.{length, getD, take, drop, replicate}
 use Rattle.base_refusal.specs.declared.Refusal.{Refusal}
 use Rattle.base_refusal.specs.Refusals.{refusal}
+use mathlib.Core.Option.{some}
+use Rattle.base_digits.specs.digits.Digits.{size}
+use Rattle.value_number.specs.number_entry.Spelling.{unitsIn}
 use Rattle.base_lists.specs.Count.{count}
 use Rattle.base_lists.specs.Parts.{part}
 use Rattle.base_value.specs.declared.Value.{Value}
@@ -76,6 +79,22 @@ use Rattle.tie_laws.proofs.Complete as complete
 use Rattle.tie_lookup.proofs.questions.Agreed as questions
 use Rattle.tie_laws.proofs.ExampleCards.{example}
 use Rattle.crew_answer.proofs.Example as worked-example
+use Rattle.volume_form.specs.declared.Form.{Form as VolumeForm}
+use Rattle.volume_form.specs.Spelled.{spelled}
+use Rattle.volume_form.specs.Rows.{rowOf}
+use Rattle.volume_form.proofs.Cards.{good-row}
+use Rattle.volume_rules.specs.Sound.{headersOf}
+use Rattle.volume_rules.specs.Volume.{volumeOf}
+use Rattle.volume_rules.specs.Judged.{volumeAnswer, Holds}
+use Rattle.volume_rules.proofs.Judging as volumes-judged
+use Rattle.volume_check.specs.declared.Counted.the-variants as counted
+use Rattle.volume_check.specs.declared.Found.the-variants as found-line
+use Rattle.volume_check.specs.Answers.{linesOf, foundOf, lineOf}
+use Rattle.volume_edit.specs.declared.Volume.the-variants as volume
+use Rattle.volume_edit.specs.Written.{appendAnswer, emptyAnswer, leftBy}
+use Rattle.volume_edit.proofs.Kept as kept-volumes
+use Rattle.promises.specs.Volumes.{volumeRows, lineRows, appendRows, emptyRows}
+use Rattle.promises.proofs.Volumes as volumes
 
 -- TOTAL. An operation has a table of refusals in the paper's order. It is refused exactly when a row of its table holds and none before
 -- it does, with that row's number, card and column; it is done exactly when no row holds.
@@ -405,3 +424,99 @@ short-for-tape = tapes.ascii-stays
 
 pub short-for-text : (text out : List ℕ) → length out < length text → ebcdicIn out text ≡ out
 short-for-text = tapes.ebcdic-stays
+
+-- VOLUMES. A season's headers in one buffer, a stated number n of cards at its front. Every question and every append judges the whole
+-- volume first, and is refused exactly by its table.
+
+pub counting-lines : (form : VolumeForm) (n : ℕ) (buffer : List ℕ)
+    → Exactly (volumeRows (rowOf form) n buffer)
+    (λ r. linesOf (rowOf form) n buffer ≡ counted.Refused r)
+    ((k : ℕ) × (linesOf (rowOf form) n buffer ≡ counted.Lines k))
+counting-lines form = volumes.lines-exactly (rowOf form)
+
+pub finding-line : (form : VolumeForm) (n : ℕ) (buffer : List ℕ) (place : ℕ)
+    → Exactly (lineRows (rowOf form) n buffer place)
+    (λ r. foundOf (rowOf form) n buffer place ≡ found-line.Refused r)
+    ((first : ℕ) × (number : ℕ) × (entry : ℕ) × (foundOf (rowOf form) n buffer place ≡ found-line.Line first number entry))
+finding-line form = volumes.line-exactly (rowOf form)
+
+pub appending : (form : VolumeForm) (n : ℕ) (buffer h : List ℕ)
+    → Exactly (appendRows (rowOf form) n buffer h)
+    (λ r. appendAnswer (rowOf form) n buffer h ≡ volume.Refused r)
+    ((m : ℕ) × (appendAnswer (rowOf form) n buffer h ≡ volume.Cards m))
+appending form = volumes.append-exactly (rowOf form)
+
+pub laying-empty : (buffer : List ℕ)
+    → Exactly (emptyRows buffer) (λ r. emptyAnswer buffer ≡ volume.Refused r) ((m : ℕ) × (emptyAnswer buffer ≡ volume.Cards m))
+laying-empty = volumes.empty-exactly
+
+-- A volume is accepted exactly if it is that of accepted headers. Numbers in it are spelled as those of fields without places are.
+
+pub volume-exactly : (form : VolumeForm) (n : ℕ) (buffer : List ℕ)
+    → (volumeAnswer (rowOf form) n buffer ≡ Accepted) ↔ ((hs : List (List ℕ)) × Holds (rowOf form) n buffer hs)
+volume-exactly form n buffer = (
+  λ a. (headersOf (rowOf form) n (take (80 * n) buffer), volumes-judged.accepted-volume (rowOf form) (good-row form) n buffer a),
+  λ x. volumes-judged.volume-accepted (rowOf form) (good-row form) n buffer (x .0) (x .1),
+)
+
+pub volume-number : (w n : ℕ) → size n ≤ w → unitsIn w false 0 n ≡ some (spelled w n)
+volume-number = volumes.spelled-as
+
+-- How many lines it has; and the line at a place is the header there, byte for byte, which is accepted and checked as it is alone.
+
+module _ (form : VolumeForm) (n : ℕ) (buffer : List ℕ) (hs : List (List ℕ)) (is : Holds (rowOf form) n buffer hs) where
+  pub lines-told : linesOf (rowOf form) n buffer ≡ counted.Lines (length hs)
+  lines-told = kept-volumes.lines-there (rowOf form) (good-row form) n buffer hs is
+
+  module _ (place : ℕ) (some-place : 1 ≤ place) (known-place : place ≤ length hs) where
+    pub line-back : lineOf (rowOf form) n buffer place ≡ getD hs (place - 1) []
+    line-back = kept-volumes.line-back (rowOf form) (good-row form) n buffer hs is place some-place known-place
+
+    pub line-accepted : refusalOf (lineOf (rowOf form) n buffer place) ≡ Accepted
+    line-accepted = kept-volumes.line-taken (rowOf form) (good-row form) n buffer hs is place some-place known-place
+
+    pub line-checked : (list : List ℕ)
+        → (answerFor (refusalOf (lineOf (rowOf form) n buffer place)) (length (faults (lineOf (rowOf form) n buffer place)))
+        ≡ Found (length (faults (getD hs (place - 1) []))))
+        × (listFor (refusalOf (lineOf (rowOf form) n buffer place)) list (entries (lineOf (rowOf form) n buffer place))
+        ≡ listFor Accepted list (entries (getD hs (place - 1) [])))
+    unfolding answerFor
+    line-checked list = (
+      rw (line-accepted) (ap (λ l. Found (length (faults l))) line-back),
+      rw (line-accepted) (ap (λ l. listFor Accepted list (entries l)) line-back),
+    )
+
+  -- An append leaves the volume of the headers with one more in front, and behind the new trailer all as it was; every earlier line
+  -- reads back as before, and the new one behind them.
+
+  module _ (m : ℕ) (h : List ℕ) (done : appendAnswer (rowOf form) n buffer h ≡ volume.Cards m) where
+    abbrev left : List ℕ
+    left = leftBy (rowOf form) (appendAnswer (rowOf form) n buffer h) (headersOf (rowOf form) n (take (80 * n) buffer) ++ (h ∷ [])) buffer
+
+    pub append-cards : m ≡ n + cardsIn h + 1
+    append-cards = kept-volumes.append-cards form n m buffer h hs is done
+
+    pub append-left : left ≡ volumeOf (rowOf form) (hs ++ (h ∷ [])) ++ drop (80 * m) buffer
+    append-left = kept-volumes.append-left form n m buffer h hs is done
+
+    pub append-holds : Holds (rowOf form) m left (hs ++ (h ∷ []))
+    append-holds = kept-volumes.append-volume form n m buffer h hs is done
+
+    pub append-behind : drop (80 * m) left ≡ drop (80 * m) buffer
+    append-behind = kept-volumes.append-behind form n m buffer h hs is done
+
+    pub append-earlier : (place : ℕ) → 1 ≤ place → place ≤ length hs → lineOf (rowOf form) m left place ≡ lineOf (rowOf form) n buffer place
+    append-earlier = kept-volumes.append-earlier form n m buffer h hs is done
+
+    pub append-last : lineOf (rowOf form) m left (length hs + 1) ≡ h
+    append-last = kept-volumes.append-last form n m buffer h hs is done
+
+-- A refused append leaves the buffer as it came. The empty volume is that of no headers.
+
+pub append-stays : (form : VolumeForm) (n : ℕ) (buffer h : List ℕ) (r : Refusal) (gs : List (List ℕ))
+    → appendAnswer (rowOf form) n buffer h ≡ volume.Refused r → leftBy (rowOf form) (appendAnswer (rowOf form) n buffer h) gs buffer ≡ buffer
+append-stays form = kept-volumes.append-stays (rowOf form)
+
+pub empty-holds : (form : VolumeForm) (buffer : List ℕ) → emptyAnswer buffer ≡ volume.Cards 1
+    → Holds (rowOf form) 1 (leftBy (rowOf form) (emptyAnswer buffer) [] buffer) []
+empty-holds = kept-volumes.empty-volume

@@ -2,3 +2,4 @@ pub mod Header
 pub mod Media
 pub mod Words
 pub mod Ebcdic
+pub mod Volumes

@@ -92,7 +92,7 @@ module _ (form : Form) (n m : ℕ) (buffer h : List ℕ) (hs : List (List ℕ)) 
   good : Good (rowOf form)
   good = good-row form
 
-  pub left : List ℕ
+  abbrev pub left : List ℕ
   left = leftBy (rowOf form) (appendAnswer (rowOf form) n buffer h) (headersOf (rowOf form) n (take (80 * n) buffer) ++ (h ∷ [])) buffer
 
   was : (appendChecked (rowOf form) n buffer h ≡ checked.Accepted) × (m ≡ n + cardsIn h + 1)
@@ -107,7 +107,6 @@ module _ (form : Form) (n m : ℕ) (buffer h : List ℕ) (hs : List (List ℕ)) 
   append-cards = was .1
 
   pub append-left : left ≡ volumeOf (rowOf form) (hs ++ (h ∷ [])) ++ drop (80 * m) buffer
-  unfolding left
   append-left =
       ap (λ a. leftBy (rowOf form) a (headersOf (rowOf form) n (take (80 * n) buffer) ++ (h ∷ [])) buffer) done
       ∙ ap (λ gs. volumeOf (rowOf form) (gs ++ (h ∷ [])) ++ drop (80 * m) buffer) (volume-tells (rowOf form) good n buffer hs is)
