@@ -262,12 +262,12 @@ pub fn of_lines(lines: Counted) -> Reply
 }
 
 // A line's cards.
-fn placed(first: usize, number: usize, entry: usize) -> Reply
-    ensures { λ r. ⌜ r ≡ lineReply (Found.Line first number entry) ⌝ }
+fn placed(start: usize, number: usize, entry: usize) -> Reply
+    ensures { λ r. ⌜ r ≡ lineReply (Found.Line start number entry) ⌝ }
 {
     Reply {
         said: plain_of(number),
-        first: plain_of(first),
+        first: plain_of(start),
         second: plain_of(entry),
         third: 0,
     }
