@@ -15,7 +15,7 @@
  * refused by a number. The same holds of every number that goes in. What is asked of the caller is what C always asks:
  * - a pointer points to as many bytes or numbers as its length says, of its type, aligned for it, and for no more than
  *   2^63 - 1 bytes; it is not null, also where the length is 0;
- * - what a function may write (card, list, out, numbers) overlaps nothing else that the same call is lent, and nobody else
+ * - what a function may write (card, list, out, buffer, numbers) overlaps nothing else that the same call is lent, and nobody else
  *   reads or writes it meanwhile.
  *
  * HOW A FUNCTION ANSWERS. Each returns one number, and writes three more:
@@ -24,7 +24,7 @@
  *     int64_t said = p294_read_field(card, 80, 1, 0, numbers, P294_NUMBERS);
  *
  * - said < 0: refused. -said is the refusal's number, and numbers are that number, the card and the column (each 0 where
- *   there is none). Nothing else was written: card, list and out are as they were.
+ *   there is none). Nothing else was written: card, list, out and buffer are as they were.
  * - said >= 0: answered. What said and numbers mean stands at the function; numbers that are not mentioned are 0.
  *
  * numbers[0] to numbers[2] are written, and nothing behind them. Where the lent numbers are fewer than three (`room` is
@@ -66,7 +66,10 @@ enum {
     P294_NO_ROOM = 14,      /* put: does not fit the columns; column 0 */
     P294_LINE_LENGTH = 15,  /* a line of a diskette file has more than 80 characters; the line and the place of the 81st */
     P294_LINE_END = 16,     /* CR or LF stands alone, at its line and place; or the last line has no CR LF, just past it */
-    P294_NO_OUTPUT = 17     /* the output has too little room; card and column 0 */
+    P294_NO_OUTPUT = 17,    /* the output has too little room; card and column 0 */
+    P294_NO_VOLUME = 18,    /* a volume's stated number of cards, its trailer, or what that points at; card and column 0 */
+    P294_DIRECTORY = 19,    /* a volume's directory; card and column 0 */
+    P294_FULL = 20          /* a volume would have more cards than it may or than the buffer holds; card and column 0 */
 };
 
 /* Kinds of value, with the numbers that go with each. */
@@ -166,6 +169,35 @@ int64_t p294_from_disk(const uint8_t *file, size_t length, uint8_t *out, size_t 
  * 17 where out_length is less than length. */
 int64_t p294_from_ebcdic(const uint8_t *tape, size_t length, uint8_t *out, size_t out_length, int64_t *numbers, size_t room);
 int64_t p294_to_ebcdic(const uint8_t *text, size_t length, uint8_t *out, size_t out_length, int64_t *numbers, size_t room);
+
+/* A VOLUME holds the headers of a season: the cards of each header in turn, then a directory card for each, then one trailer
+ * that points back. It is the first `cards` cards of a lent buffer, which may be longer; cards is any number at all. At most
+ * P294_VOLUME cards.
+ * Every function judges the whole volume first. Refused 18: cards is 0, above P294_VOLUME or more than the buffer holds, the
+ * last card is no trailer, or does not point at the cards just before it. Then 19: a directory card is malformed, the directory
+ * does not cover the cards before it once and in order, a header has no card, or a directory card has another name or sequence
+ * than the header's first card. Then the headers' own refusals as p294_check gives them, in turn, card and column counted in
+ * that header. A header with faults is good. */
+enum { P294_VOLUME = 999 };
+
+/* Lays the empty volume into a buffer: a trailer alone. said is 1, the number of cards. Nothing behind it is written. Refused 20
+ * where the buffer holds no card. */
+int64_t p294_volume_empty(uint8_t *buffer, size_t length, int64_t *numbers, size_t room);
+
+/* How many lines a volume has: said. Refused as above. */
+int64_t p294_volume_lines(const uint8_t *volume, size_t length, size_t cards, int64_t *numbers, size_t room);
+
+/* The line at a place in the directory, from 1. said is the number of its cards; numbers are its first card in the volume and the
+ * number of its directory card, so its header is volume + (numbers[0] - 1) * P294_CARD and has said * P294_CARD bytes. Refused as
+ * above, then 13 (no such place). */
+int64_t p294_volume_line(const uint8_t *volume, size_t length, size_t cards, size_t place, int64_t *numbers, size_t room);
+
+/* Appends a header: it follows the others, the directory moves behind it and gets a card more, and the trailer is new. said is
+ * the new number of cards, which is cards, those of the header, and 1. All earlier headers stand as they stood; nothing behind the
+ * new trailer is written. Refused as above, then as p294_check refuses the header, then 20 (more than P294_VOLUME cards, or than
+ * the buffer holds). */
+int64_t p294_volume_append(uint8_t *buffer, size_t length, size_t cards, const uint8_t *header, size_t header_length,
+                           int64_t *numbers, size_t room);
 
 #ifdef __cplusplus
 }

@@ -47,5 +47,6 @@ int compare_headers(uint64_t seed, unsigned long count);
 int compare_ties(uint64_t seed, unsigned long count);
 int compare_media(uint64_t seed, unsigned long count);
 int compare_tapes(uint64_t seed, unsigned long count);
+int compare_volumes(uint64_t seed, unsigned long count);
 
 #endif

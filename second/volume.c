@@ -1,0 +1,230 @@
+// A season's volume, a second time. The paper: request No. 8.
+#include "volume.h"
+#include "header.h"
+
+#include <string.h>
+
+// A form of volume: the codes of its two kinds of cards, how wide their numbers are, the most cards of a volume, of a header.
+struct form {
+    char entry[CODE_SIZE + 1], trailer[CODE_SIZE + 1];
+    unsigned width;
+    size_t most, largest;
+};
+
+static const struct form forms[] = {{"X0001", "X0009", 3, MOST_VOLUME, 800}};
+enum { FORMS = sizeof forms / sizeof *forms };
+
+// Columns: of name and sequence on a directory card and on H0000, of the first number on a directory card and on a trailer.
+// The second number stands a blank behind the first.
+enum { NAME = 7, NAME_SIZE = 16, SEQUENCE = 24, SEQUENCE_SIZE = 4, LINE_NAME = 29, LINE_SEQUENCE = 46 };
+enum { ENTRY_NUMBERS = 29, TRAILER_NUMBERS = 7 };
+
+static struct refusal refuse(uint32_t number)
+{
+    return (struct refusal){number, 0, 0};
+}
+
+static const struct refusal none = {0, 0, 0};
+
+static int is_blank(const uint8_t *columns, size_t size)
+{
+    for (size_t i = 0; i < size; i++)
+        if (columns[i] != ' ')
+            return 0;
+    return 1;
+}
+
+// A number that ends in the last of its columns, with blanks before it, no sign and no zero in front.
+static int read_number(const uint8_t *columns, unsigned width, size_t *number)
+{
+    unsigned i = 0;
+    while (i < width && columns[i] == ' ')
+        i++;
+    if (i == width || (columns[i] == '0' && i + 1 < width))
+        return 0;
+    for (*number = 0; i < width; i++) {
+        if (columns[i] < '0' || columns[i] > '9')
+            return 0;
+        *number = *number * 10 + (columns[i] - '0');
+    }
+    return 1;
+}
+
+static void write_number(uint8_t *columns, unsigned width, size_t number)
+{
+    memset(columns, ' ', width);
+    do {
+        columns[--width] = (uint8_t)('0' + number % 10);
+        number /= 10;
+    } while (number);
+}
+
+// Two numbers from a column on, a blank before each and nothing behind them.
+static int read_numbers(const uint8_t *card, const struct form *f, unsigned column, size_t *first, size_t *second)
+{
+    const uint8_t *at = card + column - 1;
+    unsigned end = column - 1 + 2 * f->width + 1;
+    return at[-1] == ' ' && read_number(at, f->width, first) && at[f->width] == ' ' &&
+           read_number(at + f->width + 1, f->width, second) && is_blank(card + end, CARD_SIZE - end);
+}
+
+static void write_numbers(uint8_t *card, const struct form *f, unsigned column, size_t first, size_t second)
+{
+    write_number(card + column - 1, f->width, first);
+    write_number(card + column + f->width, f->width, second);
+}
+
+static void write_trailer(uint8_t *card, const struct form *f, size_t first, size_t entries)
+{
+    memset(card, ' ', CARD_SIZE);
+    memcpy(card, f->trailer, CODE_SIZE);
+    write_numbers(card, f, TRAILER_NUMBERS, first, entries);
+}
+
+// The directory card of a header that stands from a card on.
+static void write_entry(uint8_t *card, const struct form *f, const uint8_t *header, size_t first, size_t cards)
+{
+    memset(card, ' ', CARD_SIZE);
+    memcpy(card, f->entry, CODE_SIZE);
+    memcpy(card + NAME - 1, header + LINE_NAME - 1, NAME_SIZE);
+    memcpy(card + SEQUENCE - 1, header + LINE_SEQUENCE - 1, SEQUENCE_SIZE);
+    write_numbers(card, f, ENTRY_NUMBERS, first, cards);
+}
+
+static const uint8_t *card_in(const uint8_t *volume, size_t card)
+{
+    return volume + (card - 1) * CARD_SIZE;
+}
+
+static int has_code(const uint8_t *card, const char *code)
+{
+    return memcmp(card, code, CODE_SIZE) == 0;
+}
+
+// What a trailer says: the volume's form, its first directory card, how many there are.
+struct directory {
+    const struct form *form;
+    size_t first, entries;
+};
+
+// The form that the last card's code names.
+static const struct form *form_of(const uint8_t *trailer)
+{
+    for (const struct form *f = forms; f < forms + FORMS; f++)
+        if (has_code(trailer, f->trailer))
+            return f;
+    return NULL;
+}
+
+// 18: the stated number, the trailer and what it points at.
+static int is_pointed(const uint8_t *volume, size_t size, size_t stated, struct directory *l)
+{
+    if (stated == 0 || stated > size / CARD_SIZE)
+        return 0;
+    const uint8_t *trailer = card_in(volume, stated);
+    l->form = form_of(trailer);
+    return l->form && stated <= l->form->most && read_numbers(trailer, l->form, TRAILER_NUMBERS, &l->first, &l->entries) &&
+           l->first >= 1 && l->first + l->entries == stated;
+}
+
+// The line that a directory card names; 0 where the card is malformed.
+static int read_entry(const uint8_t *volume, const struct directory *l, size_t place, struct line *line)
+{
+    line->entry = l->first + place - 1;
+    const uint8_t *card = card_in(volume, line->entry);
+    return has_code(card, l->form->entry) && card[NAME - 2] == ' ' && card[SEQUENCE - 2] == ' ' &&
+           read_numbers(card, l->form, ENTRY_NUMBERS, &line->first, &line->cards);
+}
+
+// 19: the directory names all cards before it once, in order, each header with the name and sequence of its first card.
+static int is_covered(const uint8_t *volume, const struct directory *l)
+{
+    size_t next = 1;
+    for (size_t place = 1; place <= l->entries; place++) {
+        struct line line;
+        if (!read_entry(volume, l, place, &line) || line.first != next || line.cards == 0 || line.cards > l->first - next)
+            return 0;
+        const uint8_t *entry = card_in(volume, line.entry), *header = card_in(volume, line.first);
+        if (memcmp(entry + NAME - 1, header + LINE_NAME - 1, NAME_SIZE) != 0 ||
+            memcmp(entry + SEQUENCE - 1, header + LINE_SEQUENCE - 1, SEQUENCE_SIZE) != 0)
+            return 0;
+        next += line.cards;
+    }
+    return next == l->first;
+}
+
+// A header by itself, with the most cards that the form allows.
+static struct refusal judge_header(const struct form *f, const uint8_t *header, size_t size)
+{
+    if (size % CARD_SIZE == 0 && size / CARD_SIZE > f->largest)
+        return refuse(3);
+    return check_header(header, size);
+}
+
+// The whole volume.
+static struct refusal judge_volume(const uint8_t *volume, size_t size, size_t stated, struct directory *l)
+{
+    if (!is_pointed(volume, size, stated, l))
+        return refuse(18);
+    if (!is_covered(volume, l))
+        return refuse(19);
+    for (size_t place = 1; place <= l->entries; place++) {
+        struct line line;
+        read_entry(volume, l, place, &line);
+        struct refusal r = judge_header(l->form, card_in(volume, line.first), line.cards * CARD_SIZE);
+        if (r.number)
+            return r;
+    }
+    return none;
+}
+
+struct refusal empty_volume(uint8_t *buffer, size_t size, size_t *cards)
+{
+    if (size < CARD_SIZE)
+        return refuse(20);
+    write_trailer(buffer, &forms[0], 1, 0);
+    *cards = 1;
+    return none;
+}
+
+struct refusal lines_in(const uint8_t *volume, size_t size, size_t stated, size_t *lines)
+{
+    struct directory l;
+    struct refusal r = judge_volume(volume, size, stated, &l);
+    if (r.number == 0)
+        *lines = l.entries;
+    return r;
+}
+
+struct refusal line_at(const uint8_t *volume, size_t size, size_t stated, size_t place, struct line *line)
+{
+    struct directory l;
+    struct refusal r = judge_volume(volume, size, stated, &l);
+    if (r.number)
+        return r;
+    if (place == 0 || place > l.entries)
+        return refuse(13);
+    read_entry(volume, &l, place, line);
+    return none;
+}
+
+struct refusal append_line(uint8_t *buffer, size_t size, size_t stated, const uint8_t *header, size_t header_size, size_t *cards)
+{
+    struct directory l;
+    size_t more = header_size / CARD_SIZE;
+    struct refusal r = judge_volume(buffer, size, stated, &l);
+    if (r.number == 0)
+        r = judge_header(l.form, header, header_size);
+    if (r.number)
+        return r;
+    *cards = stated + more + 1;
+    if (*cards > l.form->most || *cards > size / CARD_SIZE)
+        return refuse(20);
+    // the directory behind the new header, and then the new entry and the new trailer
+    uint8_t *body_end = buffer + (l.first - 1) * CARD_SIZE, *entries = body_end + header_size;
+    memmove(entries, body_end, l.entries * CARD_SIZE);
+    memcpy(body_end, header, header_size);
+    write_entry(entries + l.entries * CARD_SIZE, l.form, header, l.first, more);
+    write_trailer(buffer + (*cards - 1) * CARD_SIZE, l.form, l.first + more, l.entries + 1);
+    return none;
+}
