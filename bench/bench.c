@@ -8,6 +8,7 @@
 #include "../second/media.h"
 #include "headers.h"
 #include "logger.h"
+#include "season.h"
 
 #include <stdio.h>
 #include <stdlib.h>
@@ -16,9 +17,9 @@
 #include <ucontext.h>
 
 enum { LIBRARY, SECOND, PASS, RUNNERS };
-enum { MOST_ROWS = 40, MOST_NUMBERS = MOST_FAULTS * ENTRY_SIZE, SOME_CARDS = 16, CARD_CALLS = 512 };
+enum { MOST_ROWS = 48, MOST_NUMBERS = MOST_FAULTS * ENTRY_SIZE, SOME_CARDS = 16, CARD_CALLS = 512 };
 
-enum operation { CHECK, KEY, READ, PUT, LOG, FROM_TAPE, TO_TAPE, TO_DISK, FROM_DISK };
+enum operation { CHECK, KEY, READ, PUT, LOG, FROM_TAPE, TO_TAPE, TO_DISK, FROM_DISK, APPEND, LINE };
 enum { MOST_FILE = MOST_CARDS * P294_LINE };
 
 // What is timed: an operation on a header, or on some cards of one code in turn; its least time by each, in ns a call.
@@ -83,6 +84,8 @@ static void by_library(struct row *r)
         case TO_TAPE: sink = p294_to_ebcdic(h->at, h->size, translated, sizeof translated, numbers, P294_NUMBERS); break;
         case TO_DISK: sink = p294_to_disk(h->at, h->size, out, MOST_FILE, numbers, P294_NUMBERS); break;
         case FROM_DISK: sink = p294_from_disk(disk, disk_size, out, MOST_FILE, numbers, P294_NUMBERS); break;
+        case APPEND: sink = append_by_library(); break;
+        case LINE: sink = line_by_library(); break;
         default: sink = ask_library(r);
         }
     }
@@ -114,6 +117,8 @@ static void by_second(struct row *r)
         case TO_TAPE: sink = to_ebcdic(h->at, h->size, second_translated, sizeof second_translated).number; break;
         case TO_DISK: sink = to_disk(r->header->at, r->header->size, second_out, MOST_FILE, &faults).number; break;
         case FROM_DISK: sink = from_disk(disk, disk_size, second_out, MOST_FILE, &faults).number; break;
+        case APPEND: sink = append_by_second(); break;
+        case LINE: sink = line_by_second(); break;
         default: sink = (int64_t)ask_second(r).number;
         }
     }
@@ -133,6 +138,8 @@ static void by_pass(struct row *r)
     for (size_t k = 0; k < r->calls; k++)
         if (r->operation == LOG)
             sink = pass_over(logged[0], sizeof logged);
+        else if (r->operation == APPEND || r->operation == LINE)
+            sink = pass_over(season(), SEASON_SIZE);
         else
             sink = r->header ? pass_over(r->header->at, r->header->size) : pass_over(r->cards[k % SOME_CARDS], CARD_SIZE);
 }
@@ -216,8 +223,19 @@ static void hold_disk(struct row *r)
         fail(r, "the answers differ");
 }
 
+static void hold_season(struct row *r)
+{
+    by_library(r);
+    int64_t said = sink;
+    by_second(r);
+    if (said <= 0 || sink != said || (r->operation == APPEND && (said != MOST_VOLUME || !is_season())))
+        fail(r, "the answers differ or the volume is not full");
+}
+
 static void hold(struct row *r)
 {
+    if (r->operation == APPEND || r->operation == LINE)
+        hold_season(r);
     if (r->operation == TO_DISK || r->operation == FROM_DISK)
         hold_disk(r);
     if (r->operation == CHECK)
@@ -346,6 +364,9 @@ static void make_rows(void)
     new_row("tape translated to ASCII", FROM_TAPE)->header = grown[CLEAN].rows[SIZES - 1]->header;
     new_row("header translated to EBCDIC", TO_TAPE)->header = grown[CLEAN].rows[SIZES - 1]->header;
     disk_rows(grown[CLEAN].rows[SIZES - 1]->header);
+    make_season();
+    new_row("a line appended to a volume, which is then full", APPEND);
+    new_row("a line of a full volume", LINE);
 }
 
 // Time.
@@ -425,8 +446,9 @@ static int is_small(const struct row *r)
 
 static void print_rows(void)
 {
-    printf("Least of %u rounds at %u addresses, in microseconds of the processor's time a call. Headers are of 800 cards.\n\n",
-           rounds, addresses);
+    printf("Least of %u rounds at %u addresses, in microseconds of the processor's time a call. Headers are of 800 cards,\n"
+           "the volume of %d.\n\n",
+           rounds, addresses, MOST_VOLUME);
     printf("| what | library | second | pass | library / second | library / pass |\n|---|---:|---:|---:|---:|---:|\n");
     for (const struct row *r = rows; r < rows + count; r++) {
         if (is_small(r))
@@ -494,6 +516,11 @@ static void file_by_library(void)
     sink = p294_from_disk(disk, disk_size, out, MOST_FILE, numbers, P294_NUMBERS);
 }
 
+static void append_to_season(void)
+{
+    sink = append_by_library();
+}
+
 // The bytes from the top of a painted stack down to the lowest that a call wrote.
 static size_t depth_of(void (*call)(void))
 {
@@ -528,6 +555,7 @@ static void print_stack(void)
            depth_of(log_to_library) - without);
     printf("| p294_to_disk, 800 cards | %zu |\n", depth_of(disk_by_library) - without);
     printf("| p294_from_disk, 800 lines | %zu |\n", depth_of(file_by_library) - without);
+    printf("| p294_volume_append, 999 cards | %zu |\n", depth_of(append_to_season) - without);
     printf("| the second implementation's check | %zu |\n", depth_of(check_by_second) - without);
 }
 

@@ -67,9 +67,9 @@ enum {
     P294_LINE_LENGTH = 15,  /* a line of a diskette file has more than 80 characters; the line and the place of the 81st */
     P294_LINE_END = 16,     /* CR or LF stands alone, at its line and place; or the last line has no CR LF, just past it */
     P294_NO_OUTPUT = 17,    /* the output has too little room; card and column 0 */
-    P294_NO_VOLUME = 18,    /* a volume's stated number of cards, its trailer, or what that points at; card and column 0 */
-    P294_DIRECTORY = 19,    /* a volume's directory; card and column 0 */
-    P294_FULL = 20          /* a volume would have more cards than it may or than the buffer holds; card and column 0 */
+    P294_NO_TRAILER = 18,   /* a volume's stated number of cards, its trailer, or what that points at; card and column 0 */
+    P294_NO_DIRECTORY = 19, /* a volume's directory; card and column 0 */
+    P294_NO_CARDS_LEFT = 20 /* a volume would have more cards than it may or than the buffer holds; card and column 0 */
 };
 
 /* Kinds of value, with the numbers that go with each. */
