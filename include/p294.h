@@ -62,7 +62,8 @@ enum {
                                form other than 0 and 1, card and column 0 */
     P294_NEEDED = 11,       /* a needed field is blank, or would be after a put; its first column */
     P294_OTHER_KIND = 12,   /* put: a value of another kind than the field; column 0 */
-    P294_NO_SUCH = 13,      /* no field with this number in this code, or no such class of keys; card and column 0 */
+    P294_NO_SUCH = 13,      /* no field with this number in this code, no such class of keys, or no such place in a volume; card
+                               and column 0 */
     P294_NO_ROOM = 14,      /* put: does not fit the columns; column 0 */
     P294_LINE_LENGTH = 15,  /* a line of a diskette file has more than 80 characters; the line and the place of the 81st */
     P294_LINE_END = 16,     /* CR or LF stands alone, at its line and place; or the last line has no CR LF, just past it */
