@@ -16,7 +16,10 @@ pub const CODE: usize = 5;
 
 pub const BLANK: u8 = 32;
 
-pub const CARDS: usize = 800;
+pub const CARDS: usize = 4096;
+
+// The most cards that a diskette file and the crew's programs take.
+pub const FEW_CARDS: usize = 800;
 
 // How a field is spelled. A comment is a text that may begin with blanks.
 pub enum Kind {

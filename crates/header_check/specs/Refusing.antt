@@ -22,7 +22,7 @@ use Rattle.header_check.specs.Opening.{hasLine, standsAt}
 
 -- the most cards that a header may have
 abbrev pub largest : ℕ
-largest = 800
+largest = 4096
 
 abbrev pub isUnknown : Code → Bool
 isUnknown code.Unknown = true

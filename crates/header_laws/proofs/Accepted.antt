@@ -8,12 +8,12 @@ use Rattle.value_text.specs.text.Texts.{printable}
 use Rattle.header_check.specs.forms.Cards.{cardAt, cardsIn}
 use Rattle.card_field.proofs.seeking.Bytes.{bad-none}
 use Rattle.header_check.specs.declared.Checked.the-variants.{Accepted}
-use Rattle.header_check.specs.Refusing.{refusalOf}
+use Rattle.header_check.specs.Refusing.{largest, refusalOf}
 use Rattle.header_laws.proofs.Rows.{eighty, fine-exactly}
 use Rattle.header_laws.proofs.Exactly.{accepted-exactly}
 
 module _ (h : List ℕ) (accepted : refusalOf h ≡ Accepted) where
-  pub few-cards : cardsIn h ≤ 800
+  pub few-cards : cardsIn h ≤ largest
   few-cards = accepted-exactly h .0 accepted .0 .few
 
   pub printed : (c : ℕ) → c < cardsIn h → printable (cardAt h c) ≡ true

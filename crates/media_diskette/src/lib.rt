@@ -12,7 +12,7 @@ use base_refusal::UNPRINTABLE;
 use base_refusal::refuse;
 use format_layout::BLANK;
 use format_layout::CARD;
-use format_layout::CARDS;
+use format_layout::FEW_CARDS;
 use value_text::printable;
 use value_text::printable::LAST;
 use value_text::text;
@@ -86,7 +86,7 @@ fn judge_cards(cards: &[u8]) -> Converted
     if cards.len() % CARD != 0 {
         return Converted::Refused(refuse(ODD_LENGTH, 0, 0));
     }
-    if CARDS < cards.len() / CARD {
+    if FEW_CARDS < cards.len() / CARD {
         return Converted::Refused(refuse(TOO_MANY, 0, 0));
     }
     measure(cards)
@@ -159,7 +159,7 @@ fn offence_of(b: u8, k: usize) -> usize
 fn size_of(lines: usize) -> Converted
     ensures { λ r. ⌜ r ≡ sized lines ⌝ }
 {
-    if CARDS < lines {
+    if FEW_CARDS < lines {
         return Converted::Refused(refuse(TOO_MANY, 0, 0));
     }
     Converted::Length(lines * CARD)

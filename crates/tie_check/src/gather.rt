@@ -9,14 +9,15 @@ ghost use mathlib.Core.Path.{_≡_};
 ghost use Prim.Native.Nat.{_+_, _≤_, _<_};
 ghost use lib.ListN.{replicate};
 ghost use Rattle.header_check.specs.forms.Cards.{cardsIn, layoutOf};
-ghost use Rattle.tie_store.specs.Store.{room, linkRoom, countIn, Linked};
+ghost use Rattle.header_check.specs.Refusing.{largest};
+ghost use Rattle.tie_store.specs.Store.{onCard, room, linkRoom, countIn, Linked};
 ghost use Rattle.tie_check.specs.packed.Noted.{Noted};
 ghost use Rattle.tie_check.specs.packed.Gathered.{store, withNumber, withSlots, gathered};
 
 // One definition, by its number; 0 is none.
 fn gather_number(keys: &mut [u64; ROOM], links: &mut [u16; LINKS], number: u64, vessel: u16)
     requires { ⌜ Linked (now keys) (now links) ⌝ }
-    requires { ⌜ countIn (now links) < room ⌝ }
+    requires { ⌜ ((number ≡ 0 → ⊥) → countIn (now links) < room) ⌝ }
     ensures keys { λ _. ⌜ now (keys .exit) ≡ withNumber (store (now (keys .entry)) (now (links .entry))) number vessel .keys ⌝ }
     ensures links { λ _. ⌜ now (links .exit) ≡ withNumber (store (now (keys .entry)) (now (links .entry))) number vessel .links ⌝ }
 {
@@ -30,7 +31,7 @@ fn gather_number(keys: &mut [u64; ROOM], links: &mut [u16; LINKS], number: u64, 
 fn gather_card(keys: &mut [u64; ROOM], links: &mut [u16; LINKS], card: &[u8], layout: usize)
     requires { ⌜ layout ≡ layoutOf (now card) ⌝ }
     requires { ⌜ Linked (now keys) (now links) ⌝ }
-    requires { ⌜ countIn (now links) + 5 ≤ room ⌝ }
+    requires { ⌜ countIn (now links) + onCard ≤ room ⌝ }
     ensures keys { λ _. ⌜ now (keys .exit) ≡ withSlots (store (now (keys .entry)) (now (links .entry))) (now (card .entry)) 5 .keys ⌝ }
     ensures links { λ _. ⌜ now (links .exit) ≡ withSlots (store (now (keys .entry)) (now (links .entry))) (now (card .entry)) 5 .links ⌝ }
 {
@@ -49,11 +50,11 @@ fn gather_card(keys: &mut [u64; ROOM], links: &mut [u16; LINKS], card: &[u8], la
 // The definitions of a header with its layouts at hand, in arrays of zeros.
 pub fn gather(
     header: &[u8],
-    layouts: &[usize; CARDS],
+    layouts: &[u8; CARDS],
     keys: &mut [u64; ROOM],
     links: &mut [u16; LINKS],
 )
-    requires { ⌜ cardsIn (now header) ≤ 800 ⌝ }
+    requires { ⌜ cardsIn (now header) ≤ largest ⌝ }
     requires { ⌜ Noted (now header) (cardsIn (now header)) (now layouts) ⌝ }
     requires { ⌜ now keys ≡ replicate room 0 ⌝ }
     requires { ⌜ now links ≡ replicate linkRoom 0 ⌝ }
@@ -65,7 +66,7 @@ pub fn gather(
     while place < count {
         let from = place * CARD;
         let card = &header[from..from + CARD];
-        gather_card(keys, links, card, layouts[place]);
+        gather_card(keys, links, card, layouts[place] as usize);
         place += 1;
     }
 }

@@ -33,7 +33,7 @@ fn list_card(
     list: &mut [u32],
     found: usize,
     header: &[u8],
-    layouts: &[usize; CARDS],
+    layouts: &[u8; CARDS],
     store: &[u64; ROOM],
     links: &[u16; LINKS],
     totals: Totals,
@@ -51,7 +51,7 @@ fn list_card(
 {
     let from = place * CARD;
     let card = &header[from..from + CARD];
-    let layout = layouts[place];
+    let layout = layouts[place] as usize;
     let vessel = keys::vessel_of(card, layout);
     let left = begins::any_left(card, layout);
     let mut m = found;
@@ -81,7 +81,7 @@ fn list_card(
 fn list_cards(
     list: &mut [u32],
     header: &[u8],
-    layouts: &[usize; CARDS],
+    layouts: &[u8; CARDS],
     store: &[u64; ROOM],
     links: &[u16; LINKS],
     totals: Totals,
@@ -109,7 +109,7 @@ pub fn list_faults(header: &[u8], list: &mut [u32]) -> usize
     ensures list { λ _. ⌜ now (list .exit) ≡ laid entrySize (now (list .entry)) (entries (now (header .entry))) ⌝ }
     ensures number { λ r. ⌜ r ≡ length (faults (now (header .entry))) ⌝ }
 {
-    let mut layouts = [0usize; CARDS];
+    let mut layouts = [0u8; CARDS];
     let mut store = [0u64; ROOM];
     let mut links = [0u16; LINKS];
     notes::note_layouts(header, &mut layouts);

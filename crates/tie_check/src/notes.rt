@@ -7,12 +7,13 @@ ghost use mathlib.Core.Path.{_≡_};
 ghost use Prim.Native.Nat.{_≤_};
 ghost use lib.ListN.{length};
 ghost use Rattle.header_check.specs.forms.Cards.{cardsIn};
+ghost use Rattle.header_check.specs.Refusing.{largest};
 ghost use Rattle.tie_check.specs.packed.Noted.{Noted, notedTo, pointsTo};
 
 // Notes the layout of every card.
-pub fn note_layouts(header: &[u8], layouts: &mut [usize; CARDS])
-    requires { ⌜ cardsIn (now header) ≤ 800 ⌝ }
-    requires { ⌜ length (now layouts) ≡ 800 ⌝ }
+pub fn note_layouts(header: &[u8], layouts: &mut [u8; CARDS])
+    requires { ⌜ cardsIn (now header) ≤ largest ⌝ }
+    requires { ⌜ length (now layouts) ≡ largest ⌝ }
     ensures { λ _. ⌜ now (layouts .exit) ≡ notedTo (now (header .entry)) (now (layouts .entry)) (cardsIn (now (header .entry))) ⌝ }
 {
     let cards = header.len() / CARD;
@@ -20,14 +21,14 @@ pub fn note_layouts(header: &[u8], layouts: &mut [usize; CARDS])
     while place < cards {
         let from = place * CARD;
         let card = &header[from..from + CARD];
-        layouts[place] = forms::layout_of(card);
+        layouts[place] = forms::layout_of(card) as u8;
         place += 1;
     }
 }
 
 // How many cards have a point of the variation grid.
-pub fn points_in(header: &[u8], layouts: &[usize; CARDS]) -> usize
-    requires { ⌜ cardsIn (now header) ≤ 800 ⌝ }
+pub fn points_in(header: &[u8], layouts: &[u8; CARDS]) -> usize
+    requires { ⌜ cardsIn (now header) ≤ largest ⌝ }
     requires { ⌜ Noted (now header) (cardsIn (now header)) (now layouts) ⌝ }
     ensures { λ r. ⌜ r ≡ pointsTo (now (header .entry)) (cardsIn (now (header .entry))) ⌝ }
 {
@@ -35,7 +36,7 @@ pub fn points_in(header: &[u8], layouts: &[usize; CARDS]) -> usize
     let mut found: usize = 0;
     let mut place = 0;
     while place < count {
-        found += base_lists::bit_of(layouts[place] == H0101);
+        found += base_lists::bit_of(layouts[place] as usize == H0101);
         place += 1;
     }
     found

@@ -9,6 +9,7 @@ ghost use mathlib.Core.Path.{_≡_};
 ghost use Prim.Native.Nat.{_<_, _≤_};
 ghost use lib.ListN.{length, getD};
 ghost use Rattle.header_check.specs.forms.Cards.{cardsIn};
+ghost use Rattle.header_check.specs.Refusing.{largest};
 ghost use Rattle.tie_store.specs.Store.{room};
 ghost use Rattle.tie_check.specs.packed.Noted.{Noted};
 ghost use Rattle.tie_check.specs.packed.Gathered.{gathered};
@@ -26,7 +27,7 @@ pub struct Totals {
 fn count_up(waypoints: &mut [usize; VESSELS], vessel: usize)
     requires { ⌜ vessel < 11 ⌝ }
     requires { ⌜ length (now waypoints) ≡ 11 ⌝ }
-    requires { ⌜ getD (now waypoints) vessel 0 < 10000 ⌝ }
+    requires { ⌜ getD (now waypoints) vessel 0 < room ⌝ }
     ensures { λ _. ⌜ now (waypoints .exit) ≡ countedUp (now (waypoints .entry)) vessel ⌝ }
 {
     waypoints[vessel] += 1;
@@ -49,11 +50,11 @@ fn count_waypoints(numbers: &[u64; ROOM], n: usize) -> [usize; VESSELS]
 // The totals of a header with its layouts and definitions at hand.
 pub fn totals_of(
     header: &[u8],
-    layouts: &[usize; CARDS],
+    layouts: &[u8; CARDS],
     keys: &[u64; ROOM],
     links: &[u16; LINKS],
 ) -> Totals
-    requires { ⌜ cardsIn (now header) ≤ 800 ⌝ }
+    requires { ⌜ cardsIn (now header) ≤ largest ⌝ }
     requires { ⌜ Noted (now header) (cardsIn (now header)) (now layouts) ⌝ }
     requires { ⌜ now keys ≡ gathered (now header) .keys ⌝ }
     requires { ⌜ now links ≡ gathered (now header) .links ⌝ }

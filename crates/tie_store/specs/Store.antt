@@ -4,34 +4,39 @@
 use mathlib.Core.Path.{_≡_}
 use mathlib.Core.Bool.{Bool, true, cond, _&&_}
 use mathlib.Core.List.{List}
-use Prim.Native.Nat.{ℕ, zero, suc, _+_, _-_, _%_, _≤_, _<_}
+use Prim.Native.Nat.{ℕ, zero, suc, _+_, _*_, _-_, _%_, _≤_, _<_}
 use lib.Dec.{eqb, ltb}
 use lib.ListN.{length, getD, set}
 use Rattle.base_lists.specs.Count.{count}
+use Rattle.header_check.specs.Refusing.{largest}
 use Rattle.tie_store.specs.declared.Told.{Told}
 
--- how many entries there is room for, and how many buckets there are
+-- how many definitions a card has at most
+abbrev pub onCard : ℕ
+onCard = 4
+
+-- how many entries there is room for: those of the largest header; and how many buckets there are
 abbrev pub room : ℕ
-room = 4000
+room = onCard * largest
 
 abbrev pub buckets : ℕ
-buckets = 3989
+buckets = 8093
 
 -- the links: the number of entries; three numbers for each entry; a number for each bucket
 abbrev pub nextFrom : ℕ
 nextFrom = 1
 
 abbrev pub timesFrom : ℕ
-timesFrom = 4001
+timesFrom = nextFrom + room
 
 abbrev pub tagsFrom : ℕ
-tagsFrom = 8001
+tagsFrom = timesFrom + room
 
 abbrev pub headsFrom : ℕ
-headsFrom = 12001
+headsFrom = tagsFrom + room
 
 abbrev pub linkRoom : ℕ
-linkRoom = 15990
+linkRoom = headsFrom + buckets
 
 -- how many entries there are
 unfoldable pub countIn : List ℕ → ℕ

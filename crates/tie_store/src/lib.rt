@@ -1,29 +1,31 @@
 // The store of definitions: entries of a key and a tag, each joined to the one before it in its key's bucket. An entry knows how
 // many up to and with itself have its key, so a key is counted by walking its chain to the last entry that has it, and no
 // further. A caller lends two arrays of zeros, adds one entry after the other, and then asks.
+use format_layout::CARDS;
 ghost use mathlib.Core.Path.{_≡_};
 ghost use Prim.Native.Nat.{_+_, _<_};
 ghost use lib.ListN.{getD};
 ghost use Rattle.base_lists.specs.Count.{count};
 ghost use Rattle.tie_store.specs.Store.{room, linkRoom, buckets, bucket, countIn, holds, last, onceTo, nothingTold, toldOf, keysWith, entryWith, headWith, linksWith, Linked};
 
-// As many entries as 800 cards can have, one for each column that can carry a tie, of which a card has at most five.
-pub const ROOM: usize = 4000;
+// As many entries as the largest header can have: a card defines at most four keys.
+pub const ROOM: usize = 4 * CARDS;
 
-// A prime, so that numbers and texts of seven bits a letter both spread. Keys chosen to share a bucket are walked past one by one.
-const BUCKETS: usize = 3989;
+// A prime by which serials in sequence spread as evenly as chance would have them; 8191 would heap them up, as seven bits a letter
+// and its powers of two agree. Keys chosen to share a bucket are walked past one by one.
+const BUCKETS: usize = 8093;
 
 // The links: how many entries there are; for each entry the one before it in its bucket, how many up to and with it have its
 // key, and its tag; for each bucket its last entry. An entry is named by its number from 1, so that 0 is the end of a chain.
 const NEXT: usize = 1;
 
-const TIMES: usize = 4001;
+const TIMES: usize = NEXT + ROOM;
 
-const TAGS: usize = 8001;
+const TAGS: usize = TIMES + ROOM;
 
-const HEADS: usize = 12001;
+const HEADS: usize = TAGS + ROOM;
 
-pub const LINKS: usize = 15990;
+pub const LINKS: usize = HEADS + BUCKETS;
 
 // A tag that says nothing.
 const NO_TAG: u16 = 10;

@@ -3,15 +3,20 @@ use Prim.Native.Nat.{ℕ, _+_, _*_, _-_, _/_, _≤_, _<_}
 use native.Mathlib.Nat.{mul-comm, div-mul-le-self, mul-le-mul-right}
 use native.Mathlib.Omega.{arith}
 use native.Mathlib.Numerals.{add-one}
-use mathlib.Core.Path.{_≡_, ap, _∙_}
+use mathlib.Core.Path.{_≡_, refl, ap, _∙_}
 use mathlib.Core.List.{List}
+use mathlib.Core.Bool.{Bool, true, false, cond}
+use lib.Dec.{ltb}
 use lib.ListN.{length, getD, take, drop, length-take, length-drop}
 use lib.Seq.{length-take-le}
 use Rattle.base_lists.specs.Parts.{part}
-use borrow.Author.Tests.{eq-eqb, ne-eqb}
+use borrow.Author.Tests.{eq-eqb, ne-eqb, ltb-true}
 use Rattle.format_code.specs.declared.Code.{Code}
-use Rattle.format_code.specs.Codes.{codeOf}
+use Rattle.format_code.specs.declared.Code.the-variants as code
+use Rattle.format_code.specs.Codes.{codes, placeIn, codeAt, codeOf}
 use Rattle.format_code.proofs.Walk.{wrong-length}
+use Rattle.format_layout.specs.Table.{layouts}
+use Rattle.format_layout.proofs.Places.{layouts-count}
 use Rattle.format_layout.specs.declared.Form.{Form}
 use Rattle.format_layout.specs.declared.Form.the-variants.{Unknown}
 use Rattle.header_check.specs.forms.Cards.{cardAt, byteIn, numberOf, unread, layoutOf}
@@ -25,6 +30,16 @@ too-short s h = ap numberOf (wrong-length (take 5 s) (λ e. omega (arith, length
 pub coded : (s : List ℕ) (k : Code) (n : ℕ) → k ≡ codeOf (take 5 s) → n ≡ numberOf k → n ≡ layoutOf s
 unfolding layoutOf
 coded s k n e q = q ∙ ap numberOf e
+
+-- a layout's number is small
+pub layout-small : (s : List ℕ) → layoutOf s < 256
+unfolding layoutOf codeOf codeAt
+layout-small s = go (placeIn codes (take 5 s)) _ (ltb (placeIn codes (take 5 s)) (length codes)) refl
+  where
+    go : (n : ℕ) (a b : Bool) → ltb n (length layouts) ≡ a → numberOf (cond a (code.Read n) (cond b code.Passed code.Unknown)) < 256
+    go n true b e = omega (arith, ltb-true n (length layouts) e, layouts-count)
+    go n false true e = omega arith
+    go n false false e = omega arith
 
 -- a card seen: it states a line's form, the grid's, or none
 module _ (t s : List ℕ) (k : ℕ) (is : k ≡ layoutOf s) where

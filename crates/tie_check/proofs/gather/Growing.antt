@@ -5,21 +5,25 @@ use native.Mathlib.Numerals.{add-one}
 use native.Mathlib.Decide.{ℕ-discrete, decLt}
 use native.Mathlib.Omega.{arith}
 use mathlib.Core.Path.{_≡_, sym, ap, _∙_}
-use mathlib.Core.Bool.{false}
+use mathlib.Core.Bool.{Bool, true, false, not}
 use mathlib.Core.List.{List}
+use lib.Dec.{eqb}
 use lib.ListN.{getD, replicate}
 use lib.Seq.{getD-set-same, getD-set-other}
 use borrow.Author.Tests.{eq-eqb, ne-eqb}
 use Rattle.base_lists.specs.Count.{bit, count}
-use Rattle.base_lists.proofs.Counting.{count-more, count-same, count-run}
+use Rattle.base_lists.proofs.Counting.{count-le, count-more, count-hit, count-miss, count-split, count-mono, count-same, count-run}
+use Rattle.format_layout.specs.Names.{H22X0}
 use Rattle.header_check.specs.forms.Cards.{cardAt, cardsIn, layoutOf}
+use Rattle.header_check.specs.Refusing.{largest}
 use Rattle.tie_rules.proofs.packing.Steps.{none-packed}
-use Rattle.tie_rules.specs.Ties.{defines, canTie, tieColumns}
-use Rattle.tie_rules.specs.Keys.{classAt, keyAt, vesselOf}
+use Rattle.tie_rules.specs.Ties.{Tie, defines, canTie, tieColumns}
+use Rattle.tie_rules.specs.Keys.{classAt, keyIn, keyAt, vesselOf}
+use Rattle.tie_rules.specs.packed.Numbers.{packed}
 use Rattle.tie_rules.specs.packed.Rows.{tieRow, definitionIn, foundIn, packedBy, vesselBy}
 use Rattle.tie_rules.proofs.keys.Table.{definition-found, row-is, column-low, no-row}
-use Rattle.tie_rules.proofs.columns.Tied.{none-at-zero, idle, Idle, none-behind}
-use Rattle.tie_store.specs.Store.{room, linkRoom, countIn, tagAt, keysWith, linksWith, Linked}
+use Rattle.tie_rules.proofs.columns.Tied.{none-at-zero, idle, Idle, none-behind, no-fifth, first-of-five}
+use Rattle.tie_store.specs.Store.{onCard, room, linkRoom, countIn, tagAt, keysWith, linksWith, Linked}
 use Rattle.tie_store.proofs.Adding.{no-entries, zeros-linked, linked-more, tag-new, tag-kept, entries-more}
 use Rattle.tie_check.specs.packed.Numbers.{Test, Sparing, numberOn, numberAt, columnPasses, passing}
 use Rattle.tie_check.specs.packed.Gathered.{Store, store, withNumber, withSlots, gatheredTo, gathered, entriesPassing}
@@ -40,24 +44,29 @@ pub a-number : (t : Store) (number vessel : ℕ) → (number ≡ 0 → ⊥)
 unfolding withNumber
 a-number t number vessel z = rw (ne-eqb number 0 z)
 
-module _ (t : Store) (most : ℕ) (w : Well t most) (h : most < room) (number vessel : ℕ) where
-  below : countIn (t .links) < room
-  below = omega (arith, w .few)
+-- a bound may be a larger one
+wider : (t : Store) (few most : ℕ) → few ≤ most → Well t few → Well t most
+wider t few most l w = record { linked = w .linked; few = omega (arith, w .few) }
 
-  pub number-well : Well (withNumber t number vessel) (most + 1)
+-- one number more, for which there is room if it is a key's
+module _ (t : Store) (most : ℕ) (w : Well t most) (number vessel : ℕ) (h : (number ≡ 0 → ⊥) → most < room) where
+  below : (number ≡ 0 → ⊥) → countIn (t .links) < room
+  below e = omega (arith, w .few, h e)
+
+  pub number-well : Well (withNumber t number vessel) (most + bit (not (eqb number 0)))
   number-well = elim (ℕ-discrete number 0) [
-    | yes e ↦ rw (no-number t number vessel e) (record { linked = w .linked; few = omega (arith, w .few) })
-    | no e ↦ rw (a-number t number vessel e) (record {
-      linked = linked-more (t .keys) (t .links) (w .linked) below number vessel;
-      few = omega (arith, w .few, entries-more (t .keys) (t .links) (w .linked) below number vessel);
+    | yes e ↦ rw (no-number t number vessel e, eq-eqb number 0 e) (wider t most (most + 0) (omega arith) w)
+    | no e ↦ rw (a-number t number vessel e, ne-eqb number 0 e) (record {
+      linked = linked-more (t .keys) (t .links) (w .linked) (below e) number vessel;
+      few = omega (arith, w .few, entries-more (t .keys) (t .links) (w .linked) (below e) number vessel);
     })
   ]
 
   -- one entry more
-  passes-more : (test : Test) → entriesPassing test (store (keysWith (t .keys) (t .links) number) (linksWith (t .keys) (t .links) number vessel))
+  passes-more : (test : Test) → (countIn (t .links) < room) → entriesPassing test (store (keysWith (t .keys) (t .links) number) (linksWith (t .keys) (t .links) number vessel))
       ≡ entriesPassing test t + bit (test number vessel)
   unfolding entriesPassing keysWith
-  passes-more test =
+  passes-more test below =
       let n = countIn (t .links) in
       let links = linksWith (t .keys) (t .links) number vessel in
       rw (
@@ -80,25 +89,8 @@ module _ (t : Store) (most : ℕ) (w : Well t most) (h : most < room) (number ve
       → entriesPassing test (withNumber t number vessel) ≡ entriesPassing test t + bit (test number vessel)
   number-passes test sparing = elim (ℕ-discrete number 0) [
     | yes e ↦ rw (no-number t number vessel e, e, sparing vessel) (sym (add-zero (entriesPassing test t)))
-    | no e ↦ rw (a-number t number vessel e) (passes-more test)
+    | no e ↦ rw (a-number t number vessel e) (passes-more test (below e))
   ]
-
--- the columns of a card that can carry a tie, one after the other
-module _ (t : Store) (most : ℕ) (w : Well t most) (h : most + 5 ≤ room) (s : List ℕ) where
-  pub slots-well : (i : ℕ) → i ≤ 5 → Well (withSlots t s i) (most + i)
-  unfolding withSlots
-  slots-well zero l = rw (add-zero most) w
-  slots-well (suc i) l =
-      let e : most + suc i ≡ most + i + 1 = omega arith in
-      rw e (number-well (withSlots t s i) (most + i) (slots-well i (omega arith)) (omega arith) _ (vesselOf s))
-
-  pub slots-pass : (test : Test) → Sparing test → (i : ℕ) → i ≤ 5 → entriesPassing test (withSlots t s i)
-      ≡ entriesPassing test t + count (λ j. columnPasses s (getD (tieColumns (layoutOf s)) j 0) test) i
-  unfolding withSlots count columnPasses
-  slots-pass test sparing zero l = sym (add-zero (entriesPassing test t))
-  slots-pass test sparing (suc i) l =
-      number-passes (withSlots t s i) (most + i) (slots-well i (omega arith)) (omega arith) _ (vesselOf s) test sparing
-      ∙ rw (slots-pass test sparing i (omega arith)) (add-assoc _ _ _)
 
 -- a column that cannot carry a tie defines nothing
 idle-number : (s : List ℕ) (column : ℕ) → canTie (layoutOf s) column ≡ false → numberOn s column ≡ 0
@@ -106,6 +98,59 @@ unfolding numberOn packedBy classAt keyAt
 idle-number s column h =
     let i : Idle s column = idle s column h in
     rw (i .class defines, i .key defines) (none-packed 0)
+
+-- the column of a slot of a card defines a key
+abbrev keyed : List ℕ → ℕ → Bool
+keyed s i = not (eqb (numberOn s (getD (tieColumns (layoutOf s)) i 0)) 0)
+
+-- at most four slots of a card do: where there are five columns, the first defines nothing
+first-none : (s : List ℕ) → layoutOf s ≡ H22X0 → numberOn s (getD (tieColumns (layoutOf s)) 0 0) ≡ 0
+unfolding numberOn packedBy keyIn
+first-none s e =
+    ap (λ k. packedBy defines k s (getD (tieColumns k) 0 0)) e
+    ∙ ap (λ (t : Tie). packed (t .class) (keyIn (t .source) s)) first-of-five
+    ∙ none-packed 0
+
+pub four-keyed : (s : List ℕ) → count (keyed s) 5 ≤ onCard
+four-keyed s = elim (ℕ-discrete (layoutOf s) H22X0) [
+  | yes e ↦
+      let z : keyed s 0 ≡ false = ap not (eq-eqb _ 0 (first-none s e)) in
+      omega (arith, count-split (keyed s) 1 4, count-miss (keyed s) 0 z, count-le (keyed s) 0, count-le (λ i. keyed s (1 + i)) 4)
+  | no e ↦
+      let n = ap (numberOn s) (no-fifth (layoutOf s) e) ∙ idle-number s 0 (none-at-zero (layoutOf s)) in
+      let z : keyed s 4 ≡ false = ap not (eq-eqb _ 0 n) in
+      omega (arith, count-miss (keyed s) 4 z, count-le (keyed s) 4)
+]
+
+-- the columns of a card that can carry a tie, one after the other
+module _ (t : Store) (most : ℕ) (w : Well t most) (h : most + onCard ≤ room) (s : List ℕ) where
+  room-left : (i : ℕ) → i < 5 → (numberOn s (getD (tieColumns (layoutOf s)) i 0) ≡ 0 → ⊥) → most + count (keyed s) i < room
+  room-left i l e =
+      let k : keyed s i ≡ true = ap not (ne-eqb _ 0 e) in
+      omega (arith, h, count-hit (keyed s) i k, count-mono (keyed s) (i + 1) 5 (omega arith), four-keyed s)
+
+  pub slots-well : (i : ℕ) → i ≤ 5 → Well (withSlots t s i) (most + count (keyed s) i)
+  unfolding withSlots count
+  slots-well zero l = rw (add-zero most) w
+  slots-well (suc i) l =
+      let e : most + (count (keyed s) i + bit (keyed s i)) ≡ most + count (keyed s) i + bit (keyed s i) = omega arith in
+      rw e (number-well (withSlots t s i) (most + count (keyed s) i) (slots-well i (omega arith)) _ (vesselOf s) (room-left i l))
+
+  -- there is room for what a slot defines
+  pub slot-room : (i : ℕ) → i < 5 → (number : ℕ) → number ≡ numberOn s (getD (tieColumns (layoutOf s)) i 0) → (number ≡ 0 → ⊥)
+      → countIn (withSlots t s i .links) < room
+  slot-room i l number e z = omega (arith, slots-well i (omega arith) .few, room-left i l (λ q. z (e ∙ q)))
+
+  pub card-well : Well (withSlots t s 5) (most + onCard)
+  card-well = wider _ _ _ (omega (arith, four-keyed s)) (slots-well 5 (omega arith))
+
+  pub slots-pass : (test : Test) → Sparing test → (i : ℕ) → i ≤ 5 → entriesPassing test (withSlots t s i)
+      ≡ entriesPassing test t + count (λ j. columnPasses s (getD (tieColumns (layoutOf s)) j 0) test) i
+  unfolding withSlots count columnPasses
+  slots-pass test sparing zero l = sym (add-zero (entriesPassing test t))
+  slots-pass test sparing (suc i) l =
+      number-passes (withSlots t s i) (most + count (keyed s) i) (slots-well i (omega arith)) _ (vesselOf s) (room-left i l) test sparing
+      ∙ rw (slots-pass test sparing i (omega arith)) (add-assoc _ _ _)
 
 -- behind a slot without a column there is nothing
 pub rest-slots : (t : Store) (s : List ℕ) (slot : ℕ) → getD (tieColumns (layoutOf s)) slot 0 ≡ 0 → (n : ℕ) → slot ≤ n
@@ -149,18 +194,18 @@ unfolding entriesPassing passing count
 none-pass test h = rw no-entries
 
 module _ (h : List ℕ) where
-  pub cards-well : (c : ℕ) → c ≤ 800 → Well (gatheredTo h c) (5 * c)
+  pub cards-well : (c : ℕ) → c ≤ largest → Well (gatheredTo h c) (onCard * c)
   unfolding gatheredTo
   cards-well zero l = record { linked = zeros-linked; few = omega (arith, no-entries) }
   cards-well (suc c) l =
-      let e : 5 * suc c ≡ 5 * c + 5 = omega arith in
-      rw e (slots-well (gatheredTo h c) (5 * c) (cards-well c (omega arith)) (omega arith) (cardAt h c) 5 (omega arith))
+      let e : onCard * suc c ≡ onCard * c + onCard = omega arith in
+      rw e (card-well (gatheredTo h c) (onCard * c) (cards-well c (omega arith)) (omega arith) (cardAt h c))
 
-  cards-pass : (test : Test) → Sparing test → (c : ℕ) → c ≤ 800 → entriesPassing test (gatheredTo h c) ≡ passing test h (80 * c)
+  cards-pass : (test : Test) → Sparing test → (c : ℕ) → c ≤ largest → entriesPassing test (gatheredTo h c) ≡ passing test h (80 * c)
   unfolding gatheredTo
   cards-pass test sparing zero l = none-pass test h
   cards-pass test sparing (suc c) l =
-      slots-pass (gatheredTo h c) (5 * c) (cards-well c (omega arith)) (omega arith) (cardAt h c) test sparing 5 (omega arith)
+      slots-pass (gatheredTo h c) (onCard * c) (cards-well c (omega arith)) (omega arith) (cardAt h c) test sparing 5 (omega arith)
       ∙ rw (cards-pass test sparing c (omega arith))
       (sym (passing-more test sparing h c) ∙ ap (λ n. passing test h (80 * n)) (add-one c))
 
@@ -173,7 +218,7 @@ module _ (h : List ℕ) where
   card-more c s keys links keys′ links′ e p q u w = rw (add-one c) (u ∙ rw (p, q, e), w ∙ rw (p, q, e))
 
   -- all of them
-  module _ (few : cardsIn h ≤ 800) where
+  module _ (few : cardsIn h ≤ largest) where
     pub all-linked : Linked (gathered h .keys) (gathered h .links)
     unfolding gathered
     all-linked = cards-well (cardsIn h) few .linked
@@ -187,7 +232,7 @@ module _ (t : Store) (s : List ℕ) (slot row layout : ℕ) (is : layout ≡ lay
   abbrev column : ℕ
   column = getD (tieColumns layout) slot 0
 
-  number-is : (number : ℕ) → number ≡ foundIn (definitionIn row) s → number ≡ numberOn s (getD (tieColumns (layoutOf s)) slot 0)
+  pub number-is : (number : ℕ) → number ≡ foundIn (definitionIn row) s → number ≡ numberOn s (getD (tieColumns (layoutOf s)) slot 0)
   unfolding numberOn
   number-is number e =
       e

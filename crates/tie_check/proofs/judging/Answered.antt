@@ -8,6 +8,7 @@ use mathlib.Core.List.{List}
 use lib.Dec.{ltb}
 use borrow.Author.Tests.{eq-eqb, ne-eqb}
 use Rattle.header_check.specs.forms.Cards.{cardsIn}
+use Rattle.header_check.specs.Refusing.{largest}
 use Rattle.tie_rules.specs.Keys.{contradict}
 use Rattle.base_lists.specs.Count.{count}
 use Rattle.tie_store.specs.Store.{countIn, tagAt, holds, onceTo, nothingTold, toldOf}
@@ -27,7 +28,7 @@ says-nothing vessel = go (ltb vessel 10)
     go true = refl
     go false = refl
 
-module _ (h : List ℕ) (few : cardsIn h ≤ 800) where
+module _ (h : List ℕ) (few : cardsIn h ≤ largest) where
   abbrev keys : List ℕ
   keys = gathered h .keys
 

@@ -7,6 +7,7 @@ use borrow.Author.Tests.{le-ltb}
 use Rattle.base_digits.proofs.digits.Bools.{and-left, and-right}
 use Rattle.value_text.specs.text.Texts.{printable}
 use Rattle.header_check.specs.forms.Cards.{cardAt, cardsIn, layoutOf}
+use Rattle.header_check.specs.Refusing.{largest}
 use Rattle.tie_rules.specs.Ties.{defines, refers}
 use Rattle.tie_rules.specs.Keys.{vesselOf}
 use Rattle.tie_rules.specs.packed.Rows.{rowAt, definitionIn, referenceIn, onlyDefines, foundIn}
@@ -30,7 +31,7 @@ use Rattle.tie_check.proofs.judging.Defining.{not-undefined, not-ambigu
 use Rattle.tie_check.proofs.judging.Rows.{number, undefined-by, redefined-by, ambiguous-by, contradicted-by}
 use Rattle.tie_check.proofs.judging.Stated.{miscounted-by}
 
-module _ (h : List ℕ) (few : cardsIn h ≤ 800) (printed : (c : ℕ) → c < cardsIn h → printable (cardAt h c) ≡ true)
+module _ (h : List ℕ) (few : cardsIn h ≤ largest) (printed : (c : ℕ) → c < cardsIn h → printable (cardAt h c) ≡ true)
     (s : List ℕ) (clean : printable s ≡ true) (column : ℕ) (low : column < 256) where
   abbrev k : ℕ
   k = layoutOf s

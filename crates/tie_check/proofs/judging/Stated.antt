@@ -11,6 +11,7 @@ use Rattle.base_lists.specs.Parts.{alike}
 use Rattle.base_lists.proofs.Counting.{count-none}
 use Rattle.value_text.specs.text.Texts.{printable}
 use Rattle.header_check.specs.forms.Cards.{cardAt, cardsIn, layoutOf}
+use Rattle.header_check.specs.Refusing.{largest}
 use Rattle.tie_rules.specs.Ties.{defines}
 use Rattle.tie_rules.specs.Keys.{isNone, wholeIn, classAt, keyAt, holdsKey}
 use Rattle.tie_rules.specs.Ties.{statesCount}
@@ -95,7 +96,7 @@ no-waypoints h = count-none (waypointAt h []) (places h) (λ p l. none (keyAt de
     none (x ∷ key) true = refl
     none (x ∷ key) false = refl
 
-module _ (h : List ℕ) (few : cardsIn h ≤ 800) (printed : (c : ℕ) → c < cardsIn h → printable (cardAt h c) ≡ true) where
+module _ (h : List ℕ) (few : cardsIn h ≤ largest) (printed : (c : ℕ) → c < cardsIn h → printable (cardAt h c) ≡ true) where
   of-vessel : (m : ℕ) → Small 10 (unmarked m) → waypointsOf h (unmarked m) ≡ vesselCount (totalsOf h .waypoints) (unmarked m)
   unfolding vesselCount totalsOf entriesPassing
   of-vessel zero l = no-waypoints h

@@ -11,7 +11,13 @@ use lib.Seq.{getD-set-same, getD-set-other}
 use Rattle.base_lists.specs.Count.{bit, count}
 use Rattle.base_lists.proofs.Counting.{count-le, count-more}
 use Rattle.header_check.specs.forms.Cards.{cardAt, layoutOf}
+use Rattle.header_check.proofs.forms.Steps.{layout-small}
+use Rattle.header_check.specs.Refusing.{largest}
 use Rattle.tie_check.specs.packed.Noted.{Noted, notedTo, pointsTo}
+
+-- a layout's number fits a byte
+pub fits-byte : (s : List ℕ) (k : ℕ) → k ≡ layoutOf s → k < 256
+fits-byte s k e = omega (arith, e, layout-small s)
 
 module _ (h old : List ℕ) where
   pub length-noted : (n : ℕ) → length (notedTo h old n) ≡ length old
@@ -29,11 +35,11 @@ module _ (h old : List ℕ) where
   noted-more layouts c k e q = rw (add-one, e, q)
 
   -- so the array has the layouts of all cards
-  pub all-noted : (layouts : List ℕ) (n : ℕ) → layouts ≡ notedTo h old n → length old ≡ 800 → n ≤ 800 → Noted h n layouts
+  pub all-noted : (layouts : List ℕ) (n : ℕ) → layouts ≡ notedTo h old n → length old ≡ largest → n ≤ largest → Noted h n layouts
   unfolding notedTo
   all-noted layouts n e room few = rw e (record { room = length-noted n ∙ room; layouts-are = λ c l. at n few c l })
     where
-      at : (n : ℕ) → n ≤ 800 → (c : ℕ) → c < n → getD (notedTo h old n) c 0 ≡ layoutOf (cardAt h c)
+      at : (n : ℕ) → n ≤ largest → (c : ℕ) → c < n → getD (notedTo h old n) c 0 ≡ layoutOf (cardAt h c)
       at zero few c l = absurd (omega arith)
       at (suc n) few c l = elim (ℕ-discrete n c) [
         | yes q ↦

@@ -6,6 +6,7 @@ use lib.Dec.{eqb}
 use lib.ListN.{length, getD, set}
 use Rattle.base_lists.specs.Count.{count}
 use Rattle.header_check.specs.forms.Cards.{cardAt, layoutOf}
+use Rattle.header_check.specs.Refusing.{largest}
 use Rattle.format_layout.specs.Names.{H0101}
 
 -- an array once those of the first n cards are noted in it; the rest of it is as it was
@@ -15,7 +16,7 @@ notedTo h old (suc c) = set (notedTo h old c) c (layoutOf (cardAt h c))
 
 -- an array has those of the first n cards
 pub record Noted (h : List ℕ) (n : ℕ) (layouts : List ℕ) : Type 0 where
-  pub room : length layouts ≡ 800
+  pub room : length layouts ≡ largest
   pub layouts-are : (c : ℕ) → c < n → getD layouts c 0 ≡ layoutOf (cardAt h c)
 
 -- the cards with a point of the variation grid among the first ones

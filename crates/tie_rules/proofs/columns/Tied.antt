@@ -7,13 +7,13 @@ use mathlib.Core.Bool.{Bool, true, false, true≢false, cond, _&&_, _||_}
 use mathlib.Core.List.{List, [], _∷_, map, List·Memᴰ, List·Memᴰ·head, List·Memᴰ·tail}
 use lib.Dec.{eqb, leb, ltb}
 use lib.ListN.{length, getD, List·getD-eq-default}
-use borrow.Author.Tests.{ne-eqb, leb-true, lt-leb, ltb-true}
+use borrow.Author.Tests.{ne-eqb, eqb-true, leb-true, lt-leb, ltb-true}
 use Rattle.base_digits.proofs.digits.Bools.{and-left, and-right}
 use Rattle.base_lists.specs.Parts.{kept, upTo, Rising}
 use Rattle.base_lists.proofs.Keeping.{into-kept, into-upTo}
 use Rattle.base_lists.proofs.Rising.{rising-kept, rising-upTo, rising-order}
 use Rattle.header_check.specs.forms.Cards.{layoutOf}
-use Rattle.tie_rules.specs.Ties.{Role, Tie, ties, noTie, lineIn, lineFor, sameRole, hasVessel, about, statesCount, statesOwn, canTie, tieColumns}
+use Rattle.tie_rules.specs.Ties.{Role, defines, Tie, ties, noTie, lineIn, lineFor, sameRole, hasVessel, about, statesCount, statesOwn, canTie, tieColumns}
 use Rattle.format_layout.specs.Names.{H00X8, H00X9, H0100, H17X0, H17X1, H21X0, H21X1, H21X2, H21X3, H22X0, H23X0, H16X1, H51X0}
 use Rattle.tie_rules.specs.Keys.{keyIn, classAt, keyAt}
 
@@ -99,6 +99,23 @@ of-columns f h none k = elim (decLt k 31) [
 pub at-most-five : (k : ℕ) → length (tieColumns k) ≤ 5
 unfolding tieColumns kept upTo canTie about ties statesCount statesOwn
 at-most-five k = leb-true (length (tieColumns k)) 5 (of-columns (λ l. leb (length l) 5) refl refl k)
+
+-- only H22@0 has five, and the first of them defines nothing
+fifths : below (λ k. eqb k H22X0 || eqb (getD (tieColumns k) 4 0) 0) 31 ≡ true
+unfolding tieColumns kept upTo canTie about ties statesCount statesOwn
+fifths = refl
+
+pub no-fifth : (k : ℕ) → (k ≡ H22X0 → ⊥) → getD (tieColumns k) 4 0 ≡ 0
+no-fifth k other = elim (decLt k 31) [
+  | yes l ↦
+      let h = at-below (λ j. eqb j H22X0 || eqb (getD (tieColumns j) 4 0) 0) 31 fifths k l in
+      eqb-true (getD (tieColumns k) 4 0) 0 (rw (ne-eqb k H22X0 other) at h)
+  | no l ↦ ap (λ (c : List ℕ). getD c 4 0) (past-columns k (omega arith))
+]
+
+pub first-of-five : lineFor defines H22X0 (getD (tieColumns H22X0) 0 0) ≡ noTie
+unfolding tieColumns kept upTo canTie about ties statesCount statesOwn lineFor lineIn
+first-of-five = refl
 
 -- every column of a layout is one
 abbrev numbered : List ℕ → Bool

@@ -6,8 +6,10 @@ use denote.Ref.{now}
 use native.Mathlib.Omega.{arith}
 use borrow.Author.Needs.{needs}
 use Rattle.header_check.specs.forms.Cards.{cardsIn, layoutOf}
+use Rattle.header_check.specs.Refusing.{largest}
 use Rattle.header_check.proofs.forms.Steps.{card-part, card-ends}
 use Rattle.tie_check.specs.packed.Gathered.{gatheredTo, gathered}
+use Rattle.tie_check.proofs.notes.Noting.{fits-byte}
 use Rattle.tie_check.proofs.gather.Growing.{cards-well, card-more}
 use Rattle.tie_check.proofs.gather.gather.Statement.{statement}
 use Rattle.tie_check.proofs.gather.gather.Tie as tie
@@ -46,17 +48,21 @@ part-card-end : tie.Need-part-card-end Inv-loop μ-loop
 part-card-end c = omega (arith, within c)
 
 -- its layout is noted
-below : (c : tie.In-loop Inv-loop μ-loop) → c .before .loop .place < 800
+below : (c : tie.In-loop Inv-loop μ-loop) → c .before .loop .place < largest
 unfolding cardsIn
 below c = omega (arith, c .loop-test .taken, c .before .before .before .pre .0)
-
-mul-gather-card : tie.Need-mul-gather-card Inv-loop μ-loop
-mul-gather-card c = omega (arith, below (c .before .before .before))
 
 element-copy-out-gather-card : tie.Need-element-copy-out-gather-card Inv-loop μ-loop
 element-copy-out-gather-card c =
     let l = c .before .before .before in
     omega (arith, below l, l .before .before .before .pre .1 .0 .room)
+
+cast-gather-card : tie.Need-cast-gather-card Inv-loop μ-loop
+unfolding cardsIn
+cast-gather-card c =
+    let l = c .before .before .before .before in
+    let k = fits-byte _ _ (l .before .before .before .pre .1 .0 .layouts-are (l .before .loop .place) (l .loop-test .taken)) in
+    record { fits = omega (arith, k) }
 
 gather-card-requires : tie.Need-gather-card-requires Inv-loop μ-loop
 unfolding cardsIn
@@ -104,8 +110,8 @@ gather-spec =
     sub-card
     part-card-start
     part-card-end
-    mul-gather-card
     element-copy-out-gather-card
+    cast-gather-card
     gather-card-requires
     add-place
     loop-less

@@ -6,7 +6,7 @@ use native.Mathlib.Omega.{arith}
 use borrow.Author.Needs.{needs}
 use Rattle.tie_store.specs.Store.{countIn}
 use Rattle.tie_check.specs.packed.Gathered.{Store, store, withSlots}
-use Rattle.tie_check.proofs.gather.Growing.{Well, slots-well, slot-more, slot-rest}
+use Rattle.tie_check.proofs.gather.Growing.{Well, slots-well, slot-room, number-is, slot-more, slot-rest}
 use Rattle.tie_check.proofs.gather.gather_card.Statement.{statement}
 use Rattle.tie_check.proofs.gather.gather_card.Tie as tie
 
@@ -49,9 +49,12 @@ gather-number-requires c κs =
     let s = l .before .before .before .before in
     let t = store (now (s .args .keys)) (now (s .args .links)) in
     let n = countIn (now (s .args .links)) in
+    let k = now (s .args .card) in
     let w : Well t n = record { linked = s .pre .1 .0; few = omega arith } in
-    let u = slots-well t n w (s .pre .1 .1) (now (s .args .card)) (b .slot) (b .inv .0) in
-    rw (b .inv .1, b .inv .2) (u .linked, omega (arith, u .few, l .loop-test .taken, s .pre .1 .1))
+    let u = slots-well t n w (s .pre .1 .1) k (b .slot) (b .inv .0) in
+    let r = c .before .before .before .before in
+    let e = number-is t k (b .slot) _ (s .args .layout) (s .pre .0) (r .tie-of .ensures) _ (c .defined-by .ensures) in
+    rw (b .inv .1, b .inv .2) (u .linked, slot-room t n w (s .pre .1 .1) k (b .slot) (l .loop-test .taken) _ e)
 
 add-slot : tie.Need-add-slot Inv-loop μ-loop
 add-slot c = search needs

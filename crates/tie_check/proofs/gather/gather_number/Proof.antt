@@ -14,7 +14,10 @@ returns c =
     (ap (λ (t : Store). t .keys) e, ap (λ (t : Store). t .links) e)
 
 add-requires : tie.Need-add-requires
-add-requires c κs = search needs
+add-requires c κs =
+    let i = c .before .before in
+    let room = i .before .pre .1 (i .if1 .left) in
+    search (needs, room)
 
 returns-2 : tie.Need-returns-2
 returns-2 c =

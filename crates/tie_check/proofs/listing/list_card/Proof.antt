@@ -10,11 +10,13 @@ use borrow.Author.Needs.{needs}
 use Rattle.base_lists.specs.Parts.{upTo}
 use Rattle.format_layout.specs.Layouts.{fieldsOf}
 use Rattle.header_check.specs.forms.Cards.{cardAt, cardsIn, layoutOf}
+use Rattle.header_check.specs.Refusing.{largest}
 use Rattle.header_check.proofs.forms.Steps.{card-part, card-ends, card-whole}
 use Rattle.header_laws.proofs.Accepted.{few-cards}
 use Rattle.tie_rules.specs.Faults.{kinds}
 use Rattle.tie_check.specs.packed.Stored.{storedAll}
 use Rattle.tie_check.specs.packed.Listed.{stepEntries}
+use Rattle.tie_check.proofs.notes.Noting.{fits-byte}
 use Rattle.tie_check.proofs.gather.Growing.{all-linked}
 use Rattle.tie_check.proofs.listing.Order.{no-step, all-steps}
 use Rattle.tie_check.proofs.entries.Stored.{length-stored-all}
@@ -36,7 +38,7 @@ abbrev μ-loop : tie.MeasureT-loop
 below : (s : tie.Start Inv-loop μ-loop) → s .args .place < cardsIn (now (s .args .header))
 below s = s .pre .1 .1 .1 .1 .0
 
-few : (s : tie.Start Inv-loop μ-loop) → cardsIn (now (s .args .header)) ≤ 800
+few : (s : tie.Start Inv-loop μ-loop) → cardsIn (now (s .args .header)) ≤ largest
 few s = few-cards (now (s .args .header)) (s .pre .0)
 
 -- the card lies within the header
@@ -60,15 +62,16 @@ part-card-end : tie.Need-part-card-end Inv-loop μ-loop
 part-card-end c = omega (arith, within (c .before .before))
 
 -- its layout is noted
-mul-layout : tie.Need-mul-layout Inv-loop μ-loop
-mul-layout c =
-    let s = c .before .before .before in
-    omega (arith, below s, few s)
-
 element-copy-out-layout : tie.Need-element-copy-out-layout Inv-loop μ-loop
 element-copy-out-layout c =
     let s = c .before .before .before in
     omega (arith, below s, few s, s .pre .1 .0 .room)
+
+cast-layout : tie.Need-cast-layout Inv-loop μ-loop
+cast-layout c =
+    let s = c .before .before .before .before in
+    let k = fits-byte _ _ (s .pre .1 .0 .layouts-are (s .args .place) (below s)) in
+    record { fits = omega (arith, k) }
 
 vessel-of-requires : tie.Need-vessel-of-requires Inv-loop μ-loop
 vessel-of-requires c κs = search needs
@@ -228,8 +231,8 @@ list-card-spec =
     sub-card
     part-card-start
     part-card-end
-    mul-layout
     element-copy-out-layout
+    cast-layout
     vessel-of-requires
     any-left-requires
     loop-holds

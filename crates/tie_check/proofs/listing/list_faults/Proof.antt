@@ -6,7 +6,7 @@ use Prim.Native.Nat.{ℕ}
 use denote.Ref.{now}
 use Rattle.header_check.specs.declared.Checked.the-variants.{Accepted}
 use Rattle.header_check.specs.forms.Cards.{cardsIn}
-use Rattle.header_check.specs.Refusing.{refusalOf}
+use Rattle.header_check.specs.Refusing.{largest, refusalOf}
 use Rattle.header_laws.proofs.Accepted.{few-cards}
 use Rattle.tie_check.specs.packed.Noted.{Noted, notedTo}
 use Rattle.tie_check.proofs.notes.Noting.{all-noted}
@@ -20,9 +20,9 @@ note-layouts-requires c κs =
     (few-cards (now (s .args .header)) (s .pre), refl)
 
 -- the array has the layouts of all cards
-noted : (h layouts : List ℕ) → refusalOf h ≡ Accepted → layouts ≡ notedTo h (replicate 800 0) (cardsIn h)
+noted : (h layouts : List ℕ) → refusalOf h ≡ Accepted → layouts ≡ notedTo h (replicate largest 0) (cardsIn h)
     → Noted h (cardsIn h) layouts
-noted h layouts a e = all-noted h (replicate 800 0) layouts (cardsIn h) e refl (few-cards h a)
+noted h layouts a e = all-noted h (replicate largest 0) layouts (cardsIn h) e refl (few-cards h a)
 
 gather-requires : tie.Need-gather-requires
 gather-requires c κs =

@@ -6,9 +6,10 @@ use denote.Ref.{now}
 use native.Mathlib.Omega.{arith}
 use borrow.Author.Needs.{needs}
 use Rattle.header_check.specs.forms.Cards.{cardsIn, layoutOf}
+use Rattle.header_check.specs.Refusing.{largest}
 use Rattle.header_check.proofs.forms.Steps.{card-part, card-ends}
 use Rattle.tie_check.specs.packed.Noted.{notedTo}
-use Rattle.tie_check.proofs.notes.Noting.{none-noted, noted-more, length-noted}
+use Rattle.tie_check.proofs.notes.Noting.{fits-byte, none-noted, noted-more, length-noted}
 use Rattle.tie_check.proofs.notes.note_layouts.Statement.{statement}
 use Rattle.tie_check.proofs.notes.note_layouts.Tie as tie
 
@@ -27,7 +28,7 @@ within : (c : tie.In-loop Inv-loop μ-loop)
 within c = card-ends (now (c .before .before .before .args .header)) (c .before .loop .place) (c .loop-test .taken)
 
 -- and there is room to note its layout
-below : (c : tie.In-loop Inv-loop μ-loop) → c .before .loop .place < 800
+below : (c : tie.In-loop Inv-loop μ-loop) → c .before .loop .place < largest
 unfolding cardsIn
 below c = omega (arith, c .loop-test .taken, c .before .before .before .pre .0)
 
@@ -49,8 +50,10 @@ part-card-end c = omega (arith, within c)
 layout-of-requires : tie.Need-layout-of-requires Inv-loop μ-loop
 layout-of-requires c κs = search needs
 
-mul-layouts : tie.Need-mul-layouts Inv-loop μ-loop
-mul-layouts c = omega (arith, below (c .before .before))
+cast-layouts : tie.Need-cast-layouts Inv-loop μ-loop
+cast-layouts c =
+    let l = fits-byte _ _ (c .layout-of .ensures) in
+    record { fits = omega (arith, l) }
 
 element-write-layouts : tie.Need-element-write-layouts Inv-loop μ-loop
 element-write-layouts c =
@@ -94,7 +97,7 @@ note-layouts-spec =
     part-card-start
     part-card-end
     layout-of-requires
-    mul-layouts
+    cast-layouts
     element-write-layouts
     add-place
     loop-less

@@ -6,8 +6,9 @@ use denote.Ref.{now}
 use native.Mathlib.Omega.{arith}
 use borrow.Author.Needs.{needs}
 use Rattle.header_check.specs.forms.Cards.{cardsIn}
+use Rattle.header_check.specs.Refusing.{largest}
 use Rattle.tie_check.specs.packed.Noted.{pointsTo}
-use Rattle.tie_check.proofs.notes.Noting.{no-points, points-more, points-few}
+use Rattle.tie_check.proofs.notes.Noting.{fits-byte, no-points, points-more, points-few}
 use Rattle.tie_check.proofs.notes.points_in.Statement.{statement}
 use Rattle.tie_check.proofs.notes.points_in.Tie as tie
 
@@ -21,15 +22,19 @@ loop-holds : tie.Need-loop-holds Inv-loop μ-loop
 loop-holds c = (omega arith, no-points (now (c .before .args .header)))
 
 -- a layout is noted for the card
-below : (c : tie.In-loop Inv-loop μ-loop) → c .before .loop .place < 800
+below : (c : tie.In-loop Inv-loop μ-loop) → c .before .loop .place < largest
 unfolding cardsIn
 below c = omega (arith, c .loop-test .taken, c .before .before .before .pre .0)
 
-mul-bit-of : tie.Need-mul-bit-of Inv-loop μ-loop
-mul-bit-of c = omega (arith, below c)
-
 element-copy-out-bit-of : tie.Need-element-copy-out-bit-of Inv-loop μ-loop
 element-copy-out-bit-of c = omega (arith, below c, c .before .before .before .pre .1 .room)
+
+cast-bit-of : tie.Need-cast-bit-of Inv-loop μ-loop
+unfolding cardsIn
+cast-bit-of c =
+    let l = c .before in
+    let k = fits-byte _ _ (l .before .before .before .pre .1 .layouts-are (l .before .loop .place) (l .loop-test .taken)) in
+    record { fits = omega (arith, k) }
 
 bit-of-requires : tie.Need-bit-of-requires Inv-loop μ-loop
 bit-of-requires c κs = search needs
@@ -71,8 +76,8 @@ points-in-spec =
     Inv-loop
     μ-loop
     loop-holds
-    mul-bit-of
     element-copy-out-bit-of
+    cast-bit-of
     bit-of-requires
     add-found
     add-place
