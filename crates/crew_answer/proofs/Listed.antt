@@ -9,13 +9,12 @@ use Rattle.base_lists.proofs.Laying.{laid-at, length-laid}
 use Rattle.base_refusal.specs.declared.Refusal.{Refusal}
 use Rattle.header_check.specs.declared.Checked.{Checked}
 use Rattle.header_check.specs.declared.Checked.the-variants as checked
-use Rattle.header_check.specs.Refusing.{refusalOf}
 use Rattle.tie_rules.specs.Faults.{faults, entrySize, entryOf, entries}
 use Rattle.tie_laws.proofs.Complete.{whole-entries}
 use Rattle.tie_check.specs.declared.Ties.{Ties}
 use Rattle.tie_check.specs.declared.Ties.the-variants.{Found, Refused}
 use Rattle.tie_check.specs.Answer.{answerFor, listFor}
-use Rattle.crew_answer.specs.Answer.{answerOf, answerTo}
+use Rattle.crew_answer.specs.Answer.{programRefusal, answerOf, answerTo}
 use Rattle.crew_answer.specs.lines.Text.{refusedText, countText, entryAt, entriesText, most, told, brokenText}
 
 entry-same : (l m : List ℕ) (i : ℕ) → ((j : ℕ) → j < entrySize * i + entrySize → getD l j 0 ≡ getD m j 0) → entryAt l i ≡ entryAt m i
@@ -46,12 +45,12 @@ told-alike l w n room size =
     within : (j : ℕ) → j < entrySize * min n most → j < fitting entrySize l w
     within j h = omega arith
 
-module _ (h : List ℕ) (t : Ties) (is : t ≡ answerFor (refusalOf h) (length (faults h))) where
+module _ (h : List ℕ) (t : Ties) (is : t ≡ answerFor (programRefusal h) (length (faults h))) where
   -- the check found n faults
-  pub told-found : (n : ℕ) (l m : List ℕ) → length l ≡ most * entrySize → m ≡ listFor (refusalOf h) l (entries h) → t ≡ Found n
+  pub told-found : (n : ℕ) (l m : List ℕ) → length l ≡ most * entrySize → m ≡ listFor (programRefusal h) l (entries h) → t ≡ Found n
       → brokenText n m ≡ answerTo h
   unfolding answerTo answerFor listFor answerOf
-  told-found n l m room laid-there found = go (refusalOf h) is laid-there
+  told-found n l m room laid-there found = go (programRefusal h) is laid-there
     where
       go : (x : Checked) → t ≡ answerFor x (length (faults h)) → m ≡ listFor x l (entries h) → brokenText n m ≡ answerOf x (length (faults h)) (entries h)
       go checked.Accepted e q =
@@ -63,7 +62,7 @@ module _ (h : List ℕ) (t : Ties) (is : t ≡ answerFor (refusalOf h) (length (
   -- the check refused the header
   pub told-refused : (r : Refusal) → t ≡ Refused r → refusedText (r .number) (r .card) (r .column) ≡ answerTo h
   unfolding answerTo answerFor answerOf
-  told-refused r refused = go (refusalOf h) is
+  told-refused r refused = go (programRefusal h) is
     where
       go : (x : Checked) → t ≡ answerFor x (length (faults h)) → refusedText (r .number) (r .card) (r .column) ≡ answerOf x (length (faults h)) (entries h)
       go checked.Accepted e = cc (e, refused)

@@ -1,6 +1,6 @@
 // Where a header defines its keys: five places for each card, with 0 where no key is defined.
 use crew_io::page;
-use format_layout::CARDS;
+use format_layout::FEW_CARDS;
 use header_check::forms;
 use tie_rules::POINTS;
 use tie_rules::SLOTS;
@@ -66,7 +66,7 @@ pub fn place_at(header: &[u8], card: usize, column: usize) -> usize {
     if card == 0 {
         return 0;
     }
-    if CARDS < card {
+    if FEW_CARDS < card {
         return 0;
     }
     let layout = forms::layout_of(page::card_in(header, card));

@@ -4,7 +4,7 @@ use crew_io::input;
 use crew_io::input::Input;
 use libc::STDOUT_FILENO;
 
-// The longest header, and one card more to notice a longer one.
+// The longest header that the program takes, and one card more to notice a longer one.
 const ROOM: usize = 64080;
 
 // Writes the answer to a header in one go.

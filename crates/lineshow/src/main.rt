@@ -8,7 +8,7 @@ use crew_io::page;
 use tie_check::Ties;
 use tie_check::entries::ENTRY;
 
-// The longest header, and one card more to notice a longer one.
+// The longest header that the program takes, and one card more to notice a longer one.
 const ROOM: usize = 64080;
 
 // Room for the entries that are told, and for five places of keys on each card.
@@ -101,7 +101,7 @@ fn show_refused(out: &mut [u8], header: &[u8], refusal: Refusal) -> usize {
 // Checks a header, and shows what the check says.
 fn show(out: &mut [u8], header: &[u8]) -> usize {
     let mut list = [0u32; LIST];
-    let ties = tie_check::check(header, &mut list);
+    let ties = crew_answer::check(header, &mut list);
     match ties {
         Ties::Found(n) => show_broken(out, header, n, &list),
         Ties::Refused(refusal) => show_refused(out, header, refusal),

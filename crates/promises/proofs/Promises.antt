@@ -1,7 +1,7 @@
 -- What is promised of the product, in the order of its three demands: total, exact, complete. Each promise is a law about what the
 -- functions answer and leave, for every input; the contracts in src/ say that they answer and leave just this. A reader has to
 -- believe the definitions that are named here, each in the specs/ of its crate, and nothing else.
-use Prim.Native.Nat.{ℕ, _+_, _*_, _-_, _/_, _≤_, _<_, min}
+use Prim.Native.Nat.{ℕ, _+_, _*_, _-_, _/_, _%_, _≤_, _<_, min}
 use mathlib.Core.Path.{_≡_, ap}
 use mathlib.Core.Bool.{Bool, true, false}
 use mathlib.Core.Logic.{_↔_}
@@ -53,7 +53,7 @@ use Rattle.tie_lookup.specs.declared.questions.Defined.the-variants as defined
 use Rattle.tie_lookup.specs.questions.Questions.{isClass, keyOffered, definedBy, keyAnswer, askedAt}
 use Rattle.media_ebcdic.specs.declared.Translated.the-variants as translated
 use Rattle.media_ebcdic.specs.Translating.{Bytes, translatedFor}
-use Rattle.crew_answer.specs.Answer.{answerTo}
+use Rattle.crew_answer.specs.Answer.{mostCards, programRefusal, answerTo}
 use Rattle.crew_answer.specs.lines.Text.{bytes, newline}
 use Rattle.media_diskette.specs.declared.Converted.the-variants as converted
 use Rattle.media_diskette.specs.Lines.{diskOf, cardsFrom, trimmed, Cards, NoBlankEnds}
@@ -95,6 +95,7 @@ use Rattle.volume_edit.specs.Written.{appendAnswer, emptyAnswer, leftBy}
 use Rattle.volume_edit.proofs.Kept as kept-volumes
 use Rattle.promises.specs.Volumes.{volumeRows, lineRows, appendRows, emptyRows}
 use Rattle.promises.proofs.Volumes as volumes
+use Rattle.crew_answer.proofs.Limits as program
 
 -- TOTAL. An operation has a table of refusals in the paper's order. It is refused exactly when a row of its table holds and none before
 -- it does, with that row's number, card and column; it is done exactly when no row holds.
@@ -348,6 +349,14 @@ pub worked : answerTo example
     ≡ bytes "broken 4" ++ newline ++ bytes "11 11 2 1" ++ newline ++ bytes "11 36 2 1" ++ newline ++ bytes "12 7 4 2" ++ newline
     ++ bytes "13 7 1 1" ++ newline
 worked = worked-example.five-lines
+
+-- The program takes fewer cards than the check: up to so many it says what the check says, and more are refused.
+
+pub program-few : (h : List ℕ) → cardsIn h ≤ mostCards → programRefusal h ≡ refusalOf h
+program-few = program.few-taken
+
+pub program-many : (h : List ℕ) → length h % 80 ≡ 0 → mostCards < cardsIn h → programRefusal h ≡ Refused (refusal 3 0 0)
+program-many = program.many-refused
 
 -- MEDIA. A header as a diskette file and back. Each conversion is refused exactly by its table, and then leaves the output as it was;
 -- else it answers the length written, lays the text to the output's front, and leaves the rest as it was.
