@@ -6,8 +6,8 @@
 #include <stdlib.h>
 #include <string.h>
 
-/* The longest header, and more entries than it can have faults. */
-enum { MOST = P294_CARDS * P294_CARD, ENTRIES = 4000 };
+/* The longest header, and as many entries as it can have faults. */
+enum { MOST = P294_CARDS * P294_CARD, ENTRIES = P294_FAULTS };
 
 /* The number of a field in its code, from left to right. */
 enum { NAME = 1, NODE = 2, SECOND_NODE = 6 };

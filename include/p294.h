@@ -2,11 +2,11 @@
  *
  * Link with libp294.a, which `rt staticlib p294` writes to target/staticlib (x86-64 Linux, System V calls). The functions
  * keep nothing between calls, allocate nothing and want only memcpy and memset of the C library, so they may be called from
- * any thread. p294_check takes up to 80,000 bytes of stack, a put up to 512, every other function up to 4,000: somewhat less was
+ * any thread. p294_check takes up to 256,000 bytes of stack, a put up to 512, every other function up to 4,000: somewhat less was
  * measured of each, and nothing is proved of the stack.
  *
  * A CARD is 80 bytes, 32 to 126 each. Columns, cards and fields count from 1; the fields of a code are numbered from left
- * to right, a label being none. A HEADER is at most 800 cards, one behind the other, with no separators.
+ * to right, a label being none. A HEADER is at most 4,096 cards, one behind the other, with no separators.
  *
  * A FORM says how coordinates are spelled: 0 angles, 1 grid. It is never guessed; every function that takes a form wants
  * 0 or 1 for every code, also for one without coordinates.
@@ -43,14 +43,16 @@ extern "C" {
 #endif
 
 /* How many numbers go with an answer, and how many an entry of the list of faults has; the bytes of a card and of a code;
- * the most cards of a header; the most bytes of a card's line in a diskette file. */
-enum { P294_NUMBERS = 3, P294_ENTRY = 4, P294_CARD = 80, P294_CODE = 5, P294_CARDS = 800, P294_LINE = 82 };
+ * the most cards of a header; the most bytes of a card's line in a diskette file. The most cards of a header on a diskette,
+ * and the most faults of a header. */
+enum { P294_NUMBERS = 3, P294_ENTRY = 4, P294_CARD = 80, P294_CODE = 5, P294_CARDS = 4096, P294_LINE = 82 };
+enum { P294_DISK_CARDS = 800, P294_FAULTS = 73574 };
 
 /* Refusals. On a single card the card is 1, but card and column are 0 for 1, 2, 13 and a refused form. */
 enum {
     P294_EMPTY = 1,         /* length 0; card and column 0 */
     P294_LENGTH = 2,        /* not whole cards; for one card, not 80 bytes; card and column 0 */
-    P294_TOO_MANY = 3,      /* more than 800 cards; card and column 0 */
+    P294_TOO_MANY = 3,      /* more cards than P294_CARDS, on a diskette P294_DISK_CARDS; card and column 0 */
     P294_BYTE = 4,          /* a byte outside 32..126, at its column; of a text that is put, column 0 */
     P294_UNKNOWN_CODE = 5,  /* column 1 */
     P294_OUT_OF_PLACE = 6,  /* the opening cards are not in order, or no H00@8 is among them: then at the first card behind
@@ -113,8 +115,8 @@ int64_t p294_put_text(uint8_t *card, size_t length, size_t field, size_t form, c
 
 /* Checks a header. said is the number of all faults of its cards, and list has their entries from its front on, as
  * many whole ones as fit: card, column, kind, and the vessel digit in the card's code (P294_NO_VESSEL where it has none),
- * ordered by the first three. The rest of the list stays as it was. list_length counts numbers, not entries; 56984 are
- * enough for every header. Refused 1 to 11, at the first offence. */
+ * ordered by the first three. The rest of the list stays as it was. list_length counts numbers, not entries;
+ * P294_FAULTS * P294_ENTRY are enough for every header. Refused 1 to 11, at the first offence. */
 int64_t p294_check(const uint8_t *header, size_t length, uint32_t *list, size_t list_length, int64_t *numbers, size_t room);
 
 /* The vessel of an entry whose card's code has no vessel digit. */
@@ -159,8 +161,8 @@ int64_t p294_key(const uint8_t *header, size_t length, uint64_t key_class, size_
 int64_t p294_to_disk(const uint8_t *header, size_t length, uint8_t *out, size_t out_length, int64_t *numbers, size_t room);
 
 /* A diskette file as a header: a card for each line, blanks behind its characters; an empty line is a blank card. said is the
- * length written, at most P294_CARDS * P294_CARD; out as for p294_to_disk. Refused 1; then the first of 4, 15 and 16, with the
- * line (also one above 800) and the place in it; then 3 for more than 800 lines, then 17.
+ * length written, at most P294_DISK_CARDS * P294_CARD; out as for p294_to_disk. Refused 1; then the first of 4, 15 and 16,
+ * with the line (also one above 800) and the place in it; then 3 for more than 800 lines, then 17.
  * Cards come back from a diskette file byte for byte; a file comes back from cards without the blanks at the ends of its
  * lines, and in no more bytes than it had. */
 int64_t p294_from_disk(const uint8_t *file, size_t length, uint8_t *out, size_t out_length, int64_t *numbers, size_t room);

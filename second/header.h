@@ -4,7 +4,8 @@
 
 #include "card.h"
 
-enum { MOST_CARDS = 800 };
+// The most cards of a header; and of one that the crew's program takes or that goes on a diskette.
+enum { MOST_CARDS = 4096, FEW_CARDS = 800 };
 
 // The first offence of a header; number 0 where it is accepted.
 struct refusal check_header(const uint8_t *header, size_t size);

@@ -32,7 +32,7 @@ struct refusal to_disk(const uint8_t *header, size_t size, uint8_t *out, size_t 
         return refuse(1, 0, 0);
     if (size % CARD_SIZE != 0)
         return refuse(2, 0, 0);
-    if (cards > MOST_CARDS)
+    if (cards > FEW_CARDS)
         return refuse(3, 0, 0);
     for (size_t i = 0; i < size; i++)
         if (!printable(header[i]))
@@ -81,7 +81,7 @@ struct refusal from_disk(const uint8_t *file, size_t size, uint8_t *out, size_t 
     }
     if (column != 1)
         return refuse(16, line, column);
-    if (line - 1 > MOST_CARDS)
+    if (line - 1 > FEW_CARDS)
         return refuse(3, 0, 0);
     if ((line - 1) * CARD_SIZE > room)
         return refuse(17, 0, 0);

@@ -44,8 +44,8 @@ static const struct tie_column columns[LAYOUTS][MOST_TIES + 1] = {
 // Numbers of keys: each class has its own from a first one on, serials as they come; behind them what is counted for a
 // stated number, the points of each vessel's line and of the grid.
 enum {
-    SERIALS = 4096, // more than twice the 1,600 that can stand in 800 cards; a power of two
-    SERIAL_BITS = 12,
+    SERIALS = 16384, // more than twice the 8,174 that can stand in 4,096 cards; a power of two
+    SERIAL_BITS = 14,
     SERIAL_SIZE = 8,
     WAYPOINTS = 1000,
     FIRST_DATUM = SERIALS,

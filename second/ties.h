@@ -6,7 +6,7 @@
 #include "header.h"
 
 // An entry of the list of faults is card, column, kind and vessel: the digit in the card's code, NO_VESSEL where it has none.
-enum { ENTRY_SIZE = 4, NO_VESSEL = 10, MISPLACED = 6, MOST_FAULTS = 14246 };
+enum { ENTRY_SIZE = 4, NO_VESSEL = 10, MISPLACED = 6, MOST_FAULTS = 73574 };
 
 enum key_kind { KEY_WHOLE, KEY_PAIR, KEY_TEXT };
 

@@ -104,7 +104,7 @@ int compare_cards(uint64_t seed, unsigned long wanted)
 
 int compare_headers(uint64_t seed, unsigned long wanted)
 {
-    static uint8_t bytes[(ROOM + 1000) * CARD_SIZE];
+    static uint8_t bytes[(ROOM + MOST_CARDS) * CARD_SIZE];
     static uint32_t should[MOST_FAULTS * ENTRY_SIZE], is[MOST_FAULTS * ENTRY_SIZE];
     state = seed;
     for (unsigned turn = 0; turn < wanted; turn++) {

@@ -11,15 +11,15 @@ static void hold_faults(unsigned turn, size_t size)
     static uint32_t all[MOST_NUMBERS], should[MOST_NUMBERS + 8], is[MOST_NUMBERS + 8];
     size_t faults = 0;
     struct refusal r = check_ties(header[0], size, all, MOST_NUMBERS, &faults);
-    size_t room = turn < 3 ? MOST_NUMBERS : room_for(faults);
-    for (size_t i = 0; i < MOST_NUMBERS + 8; i++)
+    size_t room = turn < 3 ? MOST_NUMBERS : room_for(faults), lent = (turn < 3 ? MOST_NUMBERS : MOST_ROOM) + 8;
+    for (size_t i = 0; i < lent; i++)
         should[i] = is[i] = UNTOUCHED;
     check_ties(header[0], size, should, room, &faults);
     struct input in = {"check", header[0], size, header[0], 0, {room, turn}};
     struct lent l = lend(turn);
     int64_t said = p294_check(header[0], size, is, room, l.numbers, l.room);
     hold(&in, r.number ? refused(r) : (struct expected){(int64_t)faults, {0, 0, 0}}, said, &l);
-    hold_list(&in, should, is, MOST_NUMBERS + 8);
+    hold_list(&in, should, is, lent);
     headers[r.number ? 2 : faults > 0]++;
     count_list(all, faults);
     count_room(room, faults);
@@ -76,10 +76,10 @@ static void hold_taken(unsigned turn)
     unsigned down[MOST_CARDS], skipped = 0, gone = 0, share = 50 * below(3);
     size_t faults;
     add_skipped();
-    for (size_t i = 0; i < MOST_NUMBERS; i++)
-        should[i] = is[i] = UNTOUCHED;
     if (check_ties(header[0], cards * CARD_SIZE, should, MOST_NUMBERS, &faults).number)
         return;
+    for (size_t i = 0; i < ENTRY_SIZE * faults; i++)
+        is[i] = UNTOUCHED;
     for (unsigned i = 0; i < cards; i++) {
         int away = may_skip(header[i]) && (skipped++, percent(share));
         down[i] = gone;
@@ -95,7 +95,7 @@ static void hold_taken(unsigned turn)
     struct lent l = lend(turn);
     int64_t said = p294_check(left[0], in.size, is, MOST_NUMBERS, l.numbers, l.room);
     hold(&in, (struct expected){(int64_t)faults, {0, 0, 0}}, said, &l);
-    hold_list(&in, should, is, MOST_NUMBERS);
+    hold_list(&in, should, is, ENTRY_SIZE * faults);
 }
 
 static void taken_histogram(void)
@@ -109,6 +109,7 @@ static void taken_histogram(void)
 int compare_ties(uint64_t seed, unsigned long wanted)
 {
     state = seed;
+    longest = MOST_CARDS;
     for (unsigned turn = 0; turn < wanted; turn++) {
         make_header(turn);
         hold_faults(turn, cards * CARD_SIZE);

@@ -12,7 +12,7 @@ void make_damaged(uint64_t seed, struct buffer *b)
     make_header(&h);
     b->size = h.count * (size_t)CARD_SIZE;
     memcpy(b->at, h.at, b->size);
-    for (unsigned k = h.more; k; k--, b->size += CARD_SIZE)
+    for (unsigned k = h.more; k && b->size + 2 * CARD_SIZE <= MOST_BYTES; k--, b->size += CARD_SIZE)
         memcpy(b->at + b->size, h.at[h.count - 1], CARD_SIZE);
     memset(b->at + b->size, 'x', h.spare);
     b->size += h.spare;

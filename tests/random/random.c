@@ -122,8 +122,10 @@ static void make_buffer(uint64_t seed, unsigned turn, struct buffer *b)
 static void answer(const struct buffer *b, struct text *t, struct ends *e)
 {
     static uint32_t list[MOST_FAULTS * ENTRY_SIZE];
-    size_t faults, size = b->size < MOST_READ ? b->size : MOST_READ;
-    struct refusal r = check_ties(b->at, size, list, MOST_FAULTS * ENTRY_SIZE, &faults);
+    size_t faults = 0, size = b->size < MOST_READ ? b->size : MOST_READ;
+    struct refusal r = {3, 0, 0}; // more cards than the program takes
+    if (size % CARD_SIZE != 0 || size / CARD_SIZE <= FEW_CARDS)
+        r = check_ties(b->at, size, list, MOST_FAULTS * ENTRY_SIZE, &faults);
     e->long_ones += b->size > MOST_READ;
     if (r.number) {
         e->refused[r.number]++;

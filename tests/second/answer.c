@@ -21,7 +21,7 @@
 #include <stdlib.h>
 #include <string.h>
 
-enum { LINE_SIZE = 4096, COLUMNS = 128, HEADER_SIZE = 65536, LIST_SIZE = 16384 };
+enum { LINE_SIZE = 4096, COLUMNS = 128, HEADER_SIZE = 327936, LIST_SIZE = 16384 };
 
 // A part of a line.
 struct part {

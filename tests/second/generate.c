@@ -912,6 +912,13 @@ static void damage_header(struct made *h)
     }
 }
 
+// About as many cards as the program takes, about as many as a header may have, or some number between.
+static unsigned about_the_limits(void)
+{
+    unsigned limit = percent(50) ? FEW_CARDS : MOST_CARDS;
+    return percent(70) ? limit - 2 + below(4) : FEW_CARDS + below(MOST_CARDS - FEW_CARDS);
+}
+
 static void make_header(struct made *h)
 {
     memset(h, 0, sizeof *h);
@@ -922,7 +929,7 @@ static void make_header(struct made *h)
     if (percent(5))
         h->count = below(h->count + 1);
     if (percent(2) && h->count > 0)
-        h->more = MOST_CARDS - 2 - h->count + below(4);
+        h->more = about_the_limits() - h->count;
     if (percent(4))
         h->spare = 1 + below(CARD_SIZE);
 }
@@ -950,7 +957,7 @@ static unsigned refusals[NUMBERS], missed, in_coordinates[LAYOUTS][NUMBERS];
 
 static void count_header(const struct made *h)
 {
-    static uint8_t bytes[(ROOM + 1000) * CARD_SIZE];
+    static uint8_t bytes[(ROOM + MOST_CARDS) * CARD_SIZE];
     size_t cards = h->count;
     memcpy(bytes, h->at, cards * CARD_SIZE);
     for (unsigned k = h->more; k; k--, cards++)

@@ -58,6 +58,9 @@ enum { PAIRS = sizeof pairs / sizeof *pairs };
 static uint8_t header[MOST_CARDS][CARD_SIZE];
 static unsigned cards;
 
+// How many cards the long headers have: in a script few enough for the program that reads it.
+static unsigned longest = FEW_CARDS;
+
 // Cards.
 
 static uint8_t *new_card(const char *code, unsigned vessel)
@@ -416,15 +419,15 @@ static void write_node(uint8_t *card, struct deck *node, int same)
     write_serial(card, 41, same ? 3 : below(100));
 }
 
-// 800 cards: one of most ties over and over, which gives the largest number of faults; or many keys, and compasses.
-static void make_long(int same)
+// So many cards: one of most ties over and over, which gives the largest number of broken ties; or many keys, and compasses.
+static void make_long(unsigned size, int same)
 {
     struct deck node = deal(9999);
     open_header();
     cards = OPENING + 1;
     header[OPENING][3] = (uint8_t)(header[OPENING][29] == '1' ? '2' : '1');
     write_whole(header[OPENING], 79, 80, 1);
-    while (cards < MOST_CARDS) {
+    while (cards < size) {
         const uint8_t *before = header[cards - 1];
         if (!same && code_of(before) == NODE && percent(50))
             memcpy(new_card("H23@0", 1) + 6, before + 15, SERIAL_SIZE);
@@ -474,14 +477,14 @@ static void misplace(uint8_t *card)
         memcpy(card, before, CARD_SIZE);
 }
 
-// 800 cards with as many faults as can be: compasses that stand nowhere, all numbers misplaced.
+// Many cards with as many faults as can be: compasses that stand nowhere, all numbers misplaced.
 static void make_left(void)
 {
     open_header();
     cards = OPENING + 1;
     header[OPENING][3] = (uint8_t)(header[OPENING][29] == '1' ? '2' : '1');
     write_whole(header[OPENING], 79, 80, 1);
-    while (cards < MOST_CARDS)
+    while (cards < longest)
         write_serial(new_card("H23@0", 1), 7, 3);
     for (unsigned i = 0; i < cards; i++) {
         const struct layout *l = &layouts[code_of(header[i])];
@@ -494,14 +497,17 @@ static void make_left(void)
 static void make_header(unsigned turn)
 {
     if (turn < 2) {
-        make_long(turn == 0);
+        make_long(longest, turn == 0);
         return;
     }
     if (turn == 2) {
         make_left();
         return;
     }
-    make_sound(below(4));
+    if (longest > FEW_CARDS && turn % 250 == 3)
+        make_long(FEW_CARDS + below(longest - FEW_CARDS), 0);
+    else
+        make_sound(below(4));
     for (unsigned k = percent(15) ? 0 : percent(70) ? 1 + below(3) : 5 + below(20); k; k--)
         break_tie();
     for (unsigned k = percent(50) ? 0 : percent(30) ? 1 + below(4) : 10 + below(100); k; k--)

@@ -40,6 +40,6 @@ fn main() {
         say::words(b"the script is too long\n");
         return;
     }
-    let mut header = io::large_buffer();
+    let mut header = [0u8; headers::ROOM];
     run(&text[..size], &mut header)
 }

@@ -2,6 +2,9 @@
 use crate::Count;
 use format_layout::CARD;
 
+// Room for the largest header, three cards more and some bytes.
+pub const ROOM: usize = 327936;
+
 // The number, 0 where there is none.
 pub fn number_of(c: Count) -> usize {
     match c {

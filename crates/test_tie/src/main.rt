@@ -83,7 +83,7 @@ fn main() {
         say::words(b"the script is too long\n");
         return;
     }
-    let mut header = io::large_buffer();
+    let mut header = [0u8; headers::ROOM];
     let mut list = [0u32; ROOM];
     run(&text[..size], &mut header, &mut list)
 }
