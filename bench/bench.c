@@ -17,10 +17,10 @@
 #include <ucontext.h>
 
 enum { LIBRARY, SECOND, PASS, RUNNERS };
-enum { MOST_ROWS = 48, MOST_NUMBERS = MOST_FAULTS * ENTRY_SIZE, SOME_CARDS = 16, CARD_CALLS = 512 };
+enum { MOST_ROWS = 58, MOST_NUMBERS = MOST_FAULTS * ENTRY_SIZE, SOME_CARDS = 16, CARD_CALLS = 512 };
 
 enum operation { CHECK, KEY, READ, PUT, LOG, FROM_TAPE, TO_TAPE, TO_DISK, FROM_DISK, APPEND, LINE };
-enum { MOST_FILE = MOST_CARDS * P294_LINE };
+enum { MOST_FILE = FEW_CARDS * P294_LINE };
 
 // What is timed: an operation on a header, or on some cards of one code in turn; its least time by each, in ns a call.
 struct row {
@@ -41,7 +41,7 @@ static unsigned count;
 static uint32_t list[MOST_NUMBERS], second_list[MOST_NUMBERS];
 static int64_t numbers[P294_NUMBERS];
 static uint8_t logged[LOGGED_CARDS][CARD_SIZE], second_logged[LOGGED_CARDS][CARD_SIZE];
-static uint8_t translated[MOST_CARDS * CARD_SIZE], second_translated[MOST_CARDS * CARD_SIZE];
+static uint8_t translated[FEW_CARDS * CARD_SIZE], second_translated[FEW_CARDS * CARD_SIZE];
 static uint8_t out[MOST_FILE], second_out[MOST_FILE], disk[MOST_FILE];
 static size_t disk_size;
 static volatile int64_t sink;
@@ -325,8 +325,8 @@ static void disk_rows(const struct made *h)
 }
 
 // Headers of growing size.
-static const unsigned sizes[] = {100, 200, 400, 800};
-enum { SIZES = 4 };
+static const unsigned sizes[] = {100, 200, 400, FEW_CARDS, 1600, MOST_CARDS};
+enum { FEW = 3, MOST = 5, SIZES };
 
 struct grown {
     const char *name;
@@ -357,13 +357,14 @@ static void make_rows(void)
             grown[g].make(&h, sizes[k]);
             grown[g].rows[k] = check_row(grown[g].name, grown[g].make, sizes[k], faults_of(g, &h));
         }
-    check_row("check: network cards among them", make_network, MOST_CARDS, 0);
-    check_row("check: 50 faults", make_faulty, MOST_CARDS, 50);
-    check_row("check: refused at the last column of the last card", make_late, MOST_CARDS, -P294_NO_FIELD_HERE);
-    card_rows(grown[CLEAN].rows[SIZES - 1]->header);
-    new_row("tape translated to ASCII", FROM_TAPE)->header = grown[CLEAN].rows[SIZES - 1]->header;
-    new_row("header translated to EBCDIC", TO_TAPE)->header = grown[CLEAN].rows[SIZES - 1]->header;
-    disk_rows(grown[CLEAN].rows[SIZES - 1]->header);
+    check_row("check: network cards among them", make_network, FEW_CARDS, 0);
+    check_row("check: 50 faults", make_faulty, FEW_CARDS, 50);
+    check_row("check: refused at the last column of the last card", make_late, FEW_CARDS, -P294_NO_FIELD_HERE);
+    const struct made *clean = grown[CLEAN].rows[FEW]->header;
+    card_rows(clean);
+    new_row("tape translated to ASCII", FROM_TAPE)->header = clean;
+    new_row("header translated to EBCDIC", TO_TAPE)->header = clean;
+    disk_rows(clean);
     make_season();
     new_row("a line appended to a volume, which is then full", APPEND);
     new_row("a line of a full volume", LINE);
@@ -439,9 +440,10 @@ static void print_time(double ns)
     printf(" %.*f |", ns >= 1e5 ? 0 : ns >= 1e4 ? 1 : 3, ns / 1e3);
 }
 
-static int is_small(const struct row *r)
+// Whether a row belongs only to the table by the number of cards.
+static int of_other_size(const struct row *r)
 {
-    return r->header && r->header->size < MOST_CARDS * CARD_SIZE;
+    return r->header && r->header->size != FEW_CARDS * CARD_SIZE;
 }
 
 static void print_rows(void)
@@ -451,7 +453,7 @@ static void print_rows(void)
            rounds, addresses, MOST_VOLUME);
     printf("| what | library | second | pass | library / second | library / pass |\n|---|---:|---:|---:|---:|---:|\n");
     for (const struct row *r = rows; r < rows + count; r++) {
-        if (is_small(r))
+        if (of_other_size(r))
             continue;
         printf("| %s |", r->name);
         for (int i = 0; i < RUNNERS; i++)
@@ -463,14 +465,16 @@ static void print_rows(void)
 static void print_growth(void)
 {
     static const char *const by[RUNNERS] = {"library", "second", "pass"};
-    printf("\nMicroseconds by the number of cards, and the last by the first: 8 where time is the cards'.\n\n");
-    printf("| what | by | 100 | 200 | 400 | 800 | 800 / 100 |\n|---|---|---:|---:|---:|---:|---:|\n");
+    printf("\nMicroseconds by the number of cards, and two by others: 8 and 5.1 where time is the cards'.\n\n");
+    printf("| what | by | 100 | 200 | 400 | 800 | 1,600 | 4,096 | 800 / 100 | 4,096 / 800 |\n");
+    printf("|---|---|---:|---:|---:|---:|---:|---:|---:|---:|\n");
     for (unsigned g = 0; g < GROWN; g++)
         for (int i = 0; i < (g == 0 ? RUNNERS : PASS); i++) {
             printf("| %s | %s |", grown[g].name, by[i]);
             for (unsigned k = 0; k < SIZES; k++)
                 print_time(grown[g].rows[k]->least[i]);
-            printf(" %.1f |\n", grown[g].rows[SIZES - 1]->least[i] / grown[g].rows[0]->least[i]);
+            printf(" %.1f | %.1f |\n", grown[g].rows[FEW]->least[i] / grown[g].rows[0]->least[i],
+                   grown[g].rows[MOST]->least[i] / grown[g].rows[FEW]->least[i]);
         }
 }
 
@@ -544,19 +548,20 @@ static size_t depth_of(void (*call)(void))
 static void print_stack(void)
 {
     size_t without = depth_of(nothing);
-    deep = grown[WORST].rows[SIZES - 1]->header;
+    deep = grown[WORST].rows[MOST]->header;
     for (asked = rows; asked->operation != KEY; asked++)
         ;
     printf("\nStack, in bytes from the call down to the lowest that was written:\n\n");
     printf("| call | bytes |\n|---|---:|\n");
-    printf("| p294_check, 800 cards, as many faults as can be | %zu |\n", depth_of(check_by_library) - without);
+    printf("| p294_check, 4,096 cards, as many broken ties as can be | %zu |\n", depth_of(check_by_library) - without);
+    printf("| the second implementation's check | %zu |\n", depth_of(check_by_second) - without);
+    deep = grown[WORST].rows[FEW]->header;
     printf("| p294_key, 800 cards | %zu |\n", depth_of(question_to_library) - without);
     printf("| 5,000 calls of p294_put and p294_put_text, every kind of value, and the loop that makes them | %zu |\n",
            depth_of(log_to_library) - without);
     printf("| p294_to_disk, 800 cards | %zu |\n", depth_of(disk_by_library) - without);
     printf("| p294_from_disk, 800 lines | %zu |\n", depth_of(file_by_library) - without);
     printf("| p294_volume_append, 999 cards | %zu |\n", depth_of(append_to_season) - without);
-    printf("| the second implementation's check | %zu |\n", depth_of(check_by_second) - without);
 }
 
 int main(int argc, char **argv)

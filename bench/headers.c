@@ -93,7 +93,7 @@ static unsigned chain_of(const char *serial)
     uint64_t bits = 4;
     for (unsigned i = SERIAL_SIZE; i; i--)
         bits = bits * 128 + (uint8_t)serial[i - 1];
-    return (unsigned)(bits % 3989);
+    return (unsigned)(bits % 8093);
 }
 
 // Serials of one chain, each another: a number and two bytes of any kind behind it.
