@@ -72,14 +72,16 @@ static void add_skipped(void)
 static void hold_taken(unsigned turn)
 {
     static uint8_t left[MOST_CARDS][CARD_SIZE];
-    static uint32_t should[MOST_NUMBERS], is[MOST_NUMBERS];
+    static uint32_t should[MOST_NUMBERS + 8], is[MOST_NUMBERS + 8];
     unsigned down[MOST_CARDS], skipped = 0, gone = 0, share = 50 * below(3);
     size_t faults;
     add_skipped();
     if (check_ties(header[0], cards * CARD_SIZE, should, MOST_NUMBERS, &faults).number)
         return;
-    for (size_t i = 0; i < ENTRY_SIZE * faults; i++)
+    for (size_t i = 0; i < ENTRY_SIZE * faults + 8; i++) {
         is[i] = UNTOUCHED;
+        should[i] = i < ENTRY_SIZE * faults ? should[i] : UNTOUCHED;
+    }
     for (unsigned i = 0; i < cards; i++) {
         int away = may_skip(header[i]) && (skipped++, percent(share));
         down[i] = gone;
@@ -95,7 +97,7 @@ static void hold_taken(unsigned turn)
     struct lent l = lend(turn);
     int64_t said = p294_check(left[0], in.size, is, MOST_NUMBERS, l.numbers, l.room);
     hold(&in, (struct expected){(int64_t)faults, {0, 0, 0}}, said, &l);
-    hold_list(&in, should, is, ENTRY_SIZE * faults);
+    hold_list(&in, should, is, ENTRY_SIZE * faults + 8);
 }
 
 static void taken_histogram(void)
