@@ -50,6 +50,9 @@ pub const NO_DIRECTORY: usize = 19;
 
 pub const NO_CARDS_LEFT: usize = 20;
 
+// Of the datums of a header: one is defined more than once.
+pub const DATUM_TWICE: usize = 22;
+
 // A refusal's number, card and column: 0 for a card or a column where there is none.
 pub struct Refusal {
     pub number: usize,

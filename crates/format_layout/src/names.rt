@@ -9,5 +9,8 @@ pub const H0100: usize = 12;
 
 pub const H0101: usize = 13;
 
+// The shift between two datums.
+pub const H0120: usize = 15;
+
 // Network node at a fixed place.
 pub const H5000: usize = 27;
