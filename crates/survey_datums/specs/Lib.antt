@@ -1,0 +1,3 @@
+pub mod Datums
+pub mod Answer
+pub mod packed
