@@ -1,3 +1,4 @@
 pub mod Noting
 pub mod Answering
 pub mod Placing
+pub mod Chained

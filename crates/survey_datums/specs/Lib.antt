@@ -1,3 +1,4 @@
 pub mod Datums
+pub mod Chains
 pub mod Answer
 pub mod packed
