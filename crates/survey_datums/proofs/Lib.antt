@@ -2,3 +2,5 @@ pub mod Noting
 pub mod Answering
 pub mod Placing
 pub mod Chained
+pub mod Moved
+pub mod Laying

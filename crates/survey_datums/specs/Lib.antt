@@ -1,4 +1,5 @@
 pub mod Datums
 pub mod Chains
 pub mod Answer
+pub mod Listing
 pub mod packed

@@ -1,6 +1,7 @@
 // The routes by which a survey's datums are brought to datum 1: for each of the nine datums the fewest shifts, and the cards of one
 // such route.
 pub mod joining;
+pub mod listing;
 
 use base_refusal::DATUM_TWICE;
 use base_refusal::Refusal;
