@@ -72,7 +72,8 @@ enum {
     P294_NO_OUTPUT = 17,    /* the output has too little room; card and column 0 */
     P294_NO_TRAILER = 18,   /* a volume's stated number of cards, its trailer, or what that points at; card and column 0 */
     P294_NO_DIRECTORY = 19, /* a volume's directory; card and column 0 */
-    P294_NO_CARDS_LEFT = 20 /* a volume would have more cards than it may or than the buffer holds; card and column 0 */
+    P294_NO_CARDS_LEFT = 20, /* a volume would have more cards than it may or than the buffer holds; card and column 0 */
+    P294_DATUM_TWICE = 22   /* routes: a datum is defined more than once; card and column 0 */
 };
 
 /* Kinds of value, with the numbers that go with each. */
@@ -201,6 +202,17 @@ int64_t p294_volume_line(const uint8_t *volume, size_t length, size_t cards, siz
  * the buffer holds). */
 int64_t p294_volume_append(uint8_t *buffer, size_t length, size_t cards, const uint8_t *header, size_t header_length,
                            int64_t *numbers, size_t room);
+
+/* The routes by which the datums of a header are brought to datum 1. list gets nine numbers for each of the datums 1 to 9,
+ * as many whole nines as fit: the fewest shifts (0 to 8, or one of the two below), and then the cards of one such route
+ * (H0120), from the datum towards datum 1, 0 behind the last. The rest of the list stays as it was; 81 numbers hold all.
+ * A shift is used either way, only datums that are defined count, and at each step the route goes to the lowest next datum
+ * that keeps it shortest, by the lowest card. said is the number of datums that have a route, datum 1 among them.
+ * Refused as p294_check refuses the header, then 22. */
+int64_t p294_routes(const uint8_t *header, size_t length, uint32_t *list, size_t list_length, int64_t *numbers, size_t room);
+
+/* How many numbers a datum has in that list; and what stands for a number of shifts. */
+enum { P294_ROUTE = 9, P294_NO_ROUTE = 9, P294_NOT_DEFINED = 10 };
 
 #ifdef __cplusplus
 }

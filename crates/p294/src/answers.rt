@@ -10,6 +10,7 @@ use card_put::Entered;
 use card_put::opening::Opened;
 use media_diskette::Converted;
 use media_ebcdic::Translated;
+use survey_datums::listing::Listed;
 use tie_check::Ties;
 use tie_lookup::questions::Defined;
 use volume_check::Counted;
@@ -17,7 +18,7 @@ use volume_check::Found;
 use volume_edit::Volume;
 ghost use mathlib.Core.Path.{_≡_};
 ghost use mathlib.Core.Bool.{false};
-ghost use Rattle.p294.specs.answers.Replies.{plain, refusedReply, doneReply, mark, valueReply, fieldReply, textAlone, enteredReply, openedReply, countReply, onlyReply, tiesReply, keyReply, convertedReply, translatedReply, linesReply, lineReply, volumeReply};
+ghost use Rattle.p294.specs.answers.Replies.{plain, refusedReply, doneReply, mark, valueReply, fieldReply, textAlone, enteredReply, openedReply, countReply, onlyReply, tiesReply, keyReply, convertedReply, translatedReply, linesReply, lineReply, volumeReply, routesReply};
 
 // What the answer with a text says.
 const TEXT: i64 = 5;
@@ -290,5 +291,15 @@ pub fn of_volume(volume: Volume) -> Reply
     match volume {
         Volume::Cards(n) => counted(n),
         Volume::Refused(r) => refused(r),
+    }
+}
+
+// What came of routes.
+pub fn of_routes(listed: Listed) -> Reply
+    ensures { λ r. ⌜ r ≡ routesReply listed ⌝ }
+{
+    match listed {
+        Listed::Routed(n) => counted(n),
+        Listed::Refused(r) => refused(r),
     }
 }

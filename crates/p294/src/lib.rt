@@ -25,8 +25,10 @@ ghost use Rattle.volume_form.specs.Rows.{rowOf};
 ghost use Rattle.volume_rules.specs.Sound.{headersOf};
 ghost use Rattle.volume_check.specs.Answers.{linesOf, foundOf};
 ghost use Rattle.volume_edit.specs.Written.{emptyAnswer, appendAnswer, leftBy as volumeLeft};
+ghost use Rattle.survey_datums.specs.Answer.{routesOf};
+ghost use Rattle.survey_datums.specs.Listing.{listedOf, listFor as routesIn};
 ghost use Rattle.p294.specs.offered.Offers.{offeredOf, keyOf, keyTextOf};
-ghost use Rattle.p294.specs.answers.Replies.{fieldReply, textReply, enteredReply, openedReply, tiesReply, keyReply, convertedReply, translatedReply, linesReply, lineReply, volumeReply};
+ghost use Rattle.p294.specs.answers.Replies.{fieldReply, textReply, enteredReply, openedReply, tiesReply, keyReply, convertedReply, translatedReply, linesReply, lineReply, volumeReply, routesReply};
 ghost use Rattle.p294.specs.Given.{given};
 
 // How many numbers go with an answer.
@@ -289,5 +291,17 @@ pub extern "C" fn p294_volume_append(
         (headersOf (rowOf Old) cards (take (80 * cards) (now (buffer .entry))) ++ (now (header .entry) ∷ [])) (now (buffer .entry)) ⌝ }
 {
     let reply = answers::of_volume(volume_edit::append(buffer, cards, header));
+    give(numbers, reply)
+}
+
+// The routes of a header's datums to datum 1, nine numbers to a datum in the list as far as they fit; or the refusal.
+#[no_mangle]
+pub extern "C" fn p294_routes(header: &[u8], list: &mut [u32], numbers: &mut [i64]) -> i64
+    ensures said { λ r. ⌜ r ≡ routesReply (listedOf (routesOf (now (header .entry)))) .said ⌝ }
+    ensures numbers { λ _. ⌜ now (numbers .exit)
+        ≡ given (now (numbers .entry)) (routesReply (listedOf (routesOf (now (header .entry))))) ⌝ }
+    ensures list { λ _. ⌜ now (list .exit) ≡ routesIn (routesOf (now (header .entry))) (now (list .entry)) ⌝ }
+{
+    let reply = answers::of_routes(survey_datums::listing::list_routes(header, list));
     give(numbers, reply)
 }

@@ -5,4 +5,5 @@ pub mod Taken
 pub mod Media
 pub mod Ebcdic
 pub mod Volumes
+pub mod Routes
 pub mod Promises

@@ -529,3 +529,5 @@ append-stays form = kept-volumes.append-stays (rowOf form)
 pub empty-holds : (form : VolumeForm) (buffer : List ℕ) → emptyAnswer buffer ≡ volume.Cards 1
     → Holds (rowOf form) 1 (leftBy (rowOf form) (emptyAnswer buffer) [] buffer) []
 empty-holds = kept-volumes.empty-volume
+
+-- Routes between datums have a page of their own beside this one: Routes.antt.

@@ -38,16 +38,18 @@ module _ (h : List ℕ) where
   lowest-joins a b m e = elim (ℕ-discrete a b) [
     | yes q ↦ absurd (true≢false (sym e ∙ rw (eq-eqb a b q)))
     | no q ↦ elim (decLt (first p n) n) [
-        | yes l ↦
-            let is : joining h a b ≡ first p n + 1 = rw (ne-eqb a b q, lt-ltb (first p n) n l) in
-            let back : first p n + 1 - 1 ≡ first p n = omega arith in
-            (q, subst (λ k. Joined h k a b) (sym is) (record {
+      | yes l ↦
+          let is : joining h a b ≡ first p n + 1 = rw (ne-eqb a b q, lt-ltb (first p n) n l) in
+          let back : first p n + 1 - 1 ≡ first p n = omega arith in (
+            q,
+            subst (λ k. Joined h k a b) (sym is) (record {
               first-card = omega arith;
               last-card = omega arith;
               next-datum = m;
               joins-them = rw back (first-passes p n l);
-            }))
-        | no l ↦ absurd (true≢false (sym e ∙ rw (ne-eqb a b q, le-ltb (first p n) n (omega arith))))
+            }),
+          )
+      | no l ↦ absurd (true≢false (sym e ∙ rw (ne-eqb a b q, le-ltb (first p n) n (omega arith))))
     ]
   ]
     where
@@ -75,9 +77,11 @@ module _ (h : List ℕ) where
       elim (ℕ-discrete a (w .0)) [
         | yes q ↦ (r .0, omega (arith, r .1), subst (λ d. reach by (r .0) d ≡ true) (sym q) (r .2))
         | no q ↦
-            let k = lowest-card a (w .0) c q j .0 in
-            (suc (r .0), omega (arith, r .1),
-            reach-by by (r .0) a (w .0) (j .next-datum) (ap (ltb 0) (by-lowest a (w .0) l (j .next-datum)) ∙ k) (r .2))
+            let k = lowest-card a (w .0) c q j .0 in (
+              suc (r .0),
+              omega (arith, r .1),
+              reach-by by (r .0) a (w .0) (j .next-datum) (ap (ltb 0) (by-lowest a (w .0) l (j .next-datum)) ∙ k) (r .2),
+            )
       ]
 
   -- a route is a chain of as many cards
@@ -87,9 +91,11 @@ module _ (h : List ℕ) where
   route-chain (suc n) a l small e =
       let w = next-nearer by a l n e (omega (arith, e)) in
       let b = next by n a in
-      let is = by-lowest a b l (w .0) in
-      (b, subst (λ k. Joined h k a b) (sym is) (lowest-joins a b (w .0) (ap (ltb 0) (sym is) ∙ w .1) .1),
-      route-chain n b (w .0) (omega arith) (w .2))
+      let is = by-lowest a b l (w .0) in (
+        b,
+        subst (λ k. Joined h k a b) (sym is) (lowest-joins a b (w .0) (ap (ltb 0) (sym is) ∙ w .1) .1),
+        route-chain n b (w .0) (omega arith) (w .2),
+      )
 
   pub route-length : (n a : ℕ) → length (route by n a) ≡ n
   unfolding route

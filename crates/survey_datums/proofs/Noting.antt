@@ -43,11 +43,11 @@ unfolding placeOf
 is-place n b l = elim (ℕ-discrete n 0) [
   | yes z ↦ rw (eq-eqb n 0 z, ne-eqb n (b + 1) (λ e. omega arith)) (ne-eqb 9 b (λ e. omega arith))
   | no s ↦ elim (decLt 9 n) [
-      | yes m ↦ rw (ne-eqb n 0 s, lt-ltb 9 n m, ne-eqb n (b + 1) (λ e. omega arith)) (ne-eqb 9 b (λ e. omega arith))
-      | no m ↦ rw (ne-eqb n 0 s, le-ltb 9 n (omega arith)) (elim (ℕ-discrete n (b + 1)) [
-          | yes e ↦ rw (eq-eqb n (b + 1) e) (eq-eqb (n - 1) b (omega arith))
-          | no e ↦ rw (ne-eqb n (b + 1) e) (ne-eqb (n - 1) b (λ q. e (omega arith)))
-      ])
+    | yes m ↦ rw (ne-eqb n 0 s, lt-ltb 9 n m, ne-eqb n (b + 1) (λ e. omega arith)) (ne-eqb 9 b (λ e. omega arith))
+    | no m ↦ rw (ne-eqb n 0 s, le-ltb 9 n (omega arith)) (elim (ℕ-discrete n (b + 1)) [
+      | yes e ↦ rw (eq-eqb n (b + 1) e) (eq-eqb (n - 1) b (omega arith))
+      | no e ↦ rw (ne-eqb n (b + 1) e) (ne-eqb (n - 1) b (λ q. e (omega arith)))
+    ])
   ]
 ]
 
@@ -73,8 +73,8 @@ far s a b l other = go (eqb (layoutOf s) H0120)
           let differ : (x ≡ b + 1 → ⊥) = λ q. other (omega arith) in
           rw (eq-eqb x (a + 1) e, ne-eqb x (b + 1) differ) (is-place y b l ∙ sym (or-false (eqb y (b + 1))))
       | no e ↦ elim (ℕ-discrete y (a + 1)) [
-          | yes q ↦ rw (ne-eqb x (a + 1) e, eq-eqb y (a + 1) q) (is-place x b l ∙ sym (and-true (eqb x (b + 1))))
-          | no q ↦ rw (ne-eqb x (a + 1) e, ne-eqb y (a + 1) q) (nine ∙ sym (and-false (eqb x (b + 1))))
+        | yes q ↦ rw (ne-eqb x (a + 1) e, eq-eqb y (a + 1) q) (is-place x b l ∙ sym (and-true (eqb x (b + 1))))
+        | no q ↦ rw (ne-eqb x (a + 1) e, ne-eqb y (a + 1) q) (nine ∙ sym (and-false (eqb x (b + 1))))
       ]
     ]
 

@@ -66,13 +66,17 @@ module _ (g : ℕ → ℕ → ℕ) where
 
   -- nine datums, so fewer than nine shifts
   least-few : (k a : ℕ) → a < 9 → Least k a → k < 9
-  least-few k a l s = omega (arith, count-all (λ i. true) (suc k) (λ i h. refl), count-all (λ i. true) 9 (λ i h. refl),
-      count-into (λ i. true) (suc k) (λ i. true) 9 (λ j. first (isLeast j) 9) (record {
-        below = λ j h e. let w = descend k a l s j (omega arith) in
-            let p = first-least (isLeast j) 9 (w .0) (to-test j (w .0) (w .2)) in omega (arith, w .1, p);
-        passes = λ j h e. refl;
-        apart = λ i j h m e f q. one-least i j (first (isLeast j) 9) (subst (λ b. Least i b) q (at i (omega arith))) (at j (omega arith));
-      }))
+  least-few k a l s = omega (
+    arith,
+    count-all (λ i. true) (suc k) (λ i h. refl),
+    count-all (λ i. true) 9 (λ i h. refl),
+    count-into (λ i. true) (suc k) (λ i. true) 9 (λ j. first (isLeast j) 9) (record {
+      below = λ j h e. let w = descend k a l s j (omega arith) in
+          let p = first-least (isLeast j) 9 (w .0) (to-test j (w .0) (w .2)) in omega (arith, w .1, p);
+      passes = λ j h e. refl;
+      apart = λ i j h m e f q. one-least i j (first (isLeast j) 9) (subst (λ b. Least i b) q (at i (omega arith))) (at j (omega arith));
+    }),
+  )
     where
       at : (j : ℕ) → j ≤ k → Least j (first (isLeast j) 9)
       at j h =

@@ -18,6 +18,8 @@ use Rattle.media_diskette.specs.declared.Converted.{Converted}
 use Rattle.media_diskette.specs.declared.Converted.the-variants as converted
 use Rattle.tie_check.specs.declared.Ties.{Ties}
 use Rattle.tie_check.specs.declared.Ties.the-variants as ties
+use Rattle.survey_datums.specs.declared.listing.Listed.{Listed}
+use Rattle.survey_datums.specs.declared.listing.Listed.the-variants as listed
 use Rattle.tie_lookup.specs.declared.questions.Defined.{Defined}
 use Rattle.tie_lookup.specs.declared.questions.Defined.the-variants as defined
 use Rattle.media_ebcdic.specs.declared.Translated.{Translated}
@@ -137,3 +139,8 @@ lineReply (found.Refused r) = refusedReply r
 unfoldable pub volumeReply : Volume → Reply
 volumeReply (volume.Cards n) = countReply n
 volumeReply (volume.Refused r) = refusedReply r
+
+-- routes: the number of datums that have one, or the refusal
+unfoldable pub routesReply : Listed → Reply
+routesReply (listed.Routed n) = countReply n
+routesReply (listed.Refused r) = refusedReply r

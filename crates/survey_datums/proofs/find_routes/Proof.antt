@@ -25,7 +25,7 @@ returns : tie.Need-returns
 returns c = search needs
 
 returns-2 : tie.Need-returns-2
-returns-2 c = 
+returns-2 c =
     let k = c .before .before in
     let s = k .before .before .before .before in
     told-refused (now (s .args .header)) _ (sym (k .before .before .check .ensures) ∙ k .checked .given .1) (c .refused .result) (c .refused .ensures)

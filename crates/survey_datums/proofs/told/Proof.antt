@@ -23,8 +23,6 @@ Inv-loop times shifts told₀ datum₀ told datum =
 abbrev μ-loop : tie.MeasureT-loop
 μ-loop times shifts told₀ datum₀ told datum = 9 - datum
 
-
-
 loop-holds : tie.Need-loop-holds Inv-loop μ-loop
 loop-holds c = (omega arith, refl, fill-begins (of-datum (c .args .t1) (c .args .t2)) (replicate 9 10))
 
@@ -50,19 +48,19 @@ loop-less : tie.Need-loop-less Inv-loop μ-loop
 loop-less c = search needs
 
 loop-again : tie.Need-loop-again Inv-loop μ-loop
-loop-again c = 
+loop-again c =
     let t = c .before in
     let b = t .before .loop in
     let a = t .before .before .args in (
       omega (arith, t .loop-test .taken),
       length-set (b .told) (b .datum) (c .told-of .result) ∙ b .inv .1,
       fill-next (of-datum (a .t1) (a .t2)) (b .told) (b .datum) (c .told-of .result)
-      (omega (arith, t .loop-test .taken, b .inv .1)) (b .inv .2) (c .told-of .ensures),
+          (omega (arith, t .loop-test .taken, b .inv .1)) (b .inv .2) (c .told-of .ensures),
     )
 
 returns : tie.Need-returns Inv-loop μ-loop
 unfolding toldBy
-returns c = 
+returns c =
     let b = c .before .loop in
     let a = c .before .before .args in
     let f = of-datum (a .t1) (a .t2) in

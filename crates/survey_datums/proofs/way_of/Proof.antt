@@ -21,7 +21,7 @@ way-for-requires : tie.Need-way-for-requires
 way-for-requires c κs = search needs
 
 returns-3 : tie.Need-returns-3
-returns-3 c = 
+returns-3 c =
     let i = c .before .before in
     let a = i .before .before .args in
     one-of-nine (a .routes) (a .datum) (i .before .if1 .left) (λ l. omega (arith, l, i .if2 .left)) (c .way-for .result) (c .way-for .ensures)

@@ -34,10 +34,11 @@ loop-less c = search needs
 loop-again : tie.Need-loop-again Inv-loop μ-loop
 loop-again c =
     let t = c .before in
-    let b = t .before .loop in
-    (omega (arith, t .loop-test .taken),
-    level-next (t .before .before .args .table) (b .number) (omega (arith, t .loop-test .taken)) (b .shifts) (b .inv .1)
-    (c .go-further .result) (c .go-further .ensures))
+    let b = t .before .loop in (
+      omega (arith, t .loop-test .taken),
+      level-next (t .before .before .args .table) (b .number) (omega (arith, t .loop-test .taken)) (b .shifts) (b .inv .1)
+          (c .go-further .result) (c .go-further .ensures),
+    )
 
 returns : tie.Need-returns Inv-loop μ-loop
 returns c =

@@ -13,7 +13,7 @@ layout-of-requires c κs = search needs
 
 returns : tie.Need-returns
 unfolding farEnd
-returns c = 
+returns c =
     let k = c .before in
     let s = now (k .before .before .args .card) in
     rw (ne-eqb (layoutOf s) 15 (λ e. c .if1 .taken (k .layout-of .ensures ∙ e)))
@@ -29,7 +29,7 @@ other-of-requires c κs = search needs
 
 returns-2 : tie.Need-returns-2
 unfolding farEnd
-returns-2 c = 
+returns-2 c =
     let y = c .before in
     let x = y .before in
     let k = x .before .before in

@@ -8,12 +8,12 @@ use Rattle.survey_datums.proofs.joining.note.Statement.{statement}
 use Rattle.survey_datums.proofs.joining.note.Tie as tie
 
 returns : tie.Need-returns
-returns c = 
+returns c =
     let s = c .before in let a = s .args in
     (s .good .0 .1 .0 .1, no-end (a .t1) (a .t2) (a .datum) (a .end) (a .card) (c .if1 .taken))
 
 returns-2 : tie.Need-returns-2
-returns-2 c = 
+returns-2 c =
     let s = c .before .before in let a = s .args in
     (s .good .0 .1 .0 .1, to-itself (a .t1) (a .t2) (a .datum) (a .end) (a .card) (c .if2 .taken))
 
@@ -24,7 +24,7 @@ array-read-if3 : tie.Need-array-read-if3
 array-read-if3 c = search needs
 
 returns-3 : tie.Need-returns-3
-returns-3 c = 
+returns-3 c =
     let s = c .before .before .before in let a = s .args in
     (s .good .0 .1 .0 .1, not-defined (a .t1) (a .t2) (a .datum) (a .end) (a .card) (c .if3 .taken))
 
@@ -35,7 +35,7 @@ array-read-if4 : tie.Need-array-read-if4
 array-read-if4 c = search needs
 
 returns-4 : tie.Need-returns-4
-returns-4 c = 
+returns-4 c =
     let s = c .before .before .before .before in let a = s .args in
     (s .good .0 .1 .0 .1, lower-stays (a .t1) (a .t2) (a .datum) (a .end) (a .card) (c .if4 .taken))
 
@@ -46,11 +46,11 @@ array-write-more : tie.Need-array-write-more
 array-write-more c = search needs
 
 returns-5 : tie.Need-returns-5
-returns-5 c = 
+returns-5 c =
     let s = c .before .before .before .before in let a = s .args in (
       length-set (a .t1) (a .end) (a .card) ∙ s .good .0 .1 .0 .1,
       now-noted (a .t1) (a .t2) (a .datum) (a .end) (a .card) (c .before .before .if2 .left) (c .before .if3 .left) (c .if4 .left)
-      (omega (arith, s .good .0 .1 .0 .1, c .before .before .before .if1 .left)),
+          (omega (arith, s .good .0 .1 .0 .1, c .before .before .before .if1 .left)),
     )
 
 pub note-spec : {M : Type 1} → statement M

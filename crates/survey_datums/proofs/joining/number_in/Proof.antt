@@ -12,7 +12,7 @@ whole-in-requires c κs = search needs
 
 returns : tie.Need-returns
 unfolding numberIn
-returns c = 
+returns c =
     let m = c .before in
     let a = m .before .before .args in
     no-number (wholeIn (a .column) (a .column) (now (a .card))) (m .whole-in .result) (m .whole-in .ensures) (c .if1 .taken)
@@ -22,7 +22,7 @@ sub-result c = search needs
 
 returns-2 : tie.Need-returns-2
 unfolding numberIn
-returns-2 c = 
+returns-2 c =
     let m = c .before in
     let a = m .before .before .args in
     the-number (wholeIn (a .column) (a .column) (now (a .card))) (m .whole-in .result) (m .whole-in .ensures)

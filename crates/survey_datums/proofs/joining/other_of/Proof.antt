@@ -22,13 +22,13 @@ place-of-requires-2 c κs = search needs
 
 returns-2 : tie.Need-returns-2
 unfolding otherOf
-returns-2 c = 
+returns-2 c =
     let a = c .before .before .before .args in
     rw (ne-eqb (a .from) (a .datum + 1) (c .before .before .if1 .left), eq-eqb (a .to) (a .datum + 1) (c .before .if2 .taken)) (c .place-of2 .ensures)
 
 returns-3 : tie.Need-returns-3
 unfolding otherOf
-returns-3 c = 
+returns-3 c =
     let a = c .before .before .args in
     rw (ne-eqb (a .from) (a .datum + 1) (c .before .if1 .left), ne-eqb (a .to) (a .datum + 1) (c .if2 .left))
 

@@ -43,7 +43,7 @@ returns : tie.Need-returns Inv-loop μ-loop
 returns c = let s = c .before .before in none-ever (now (s .args .header)) (s .args .datum) (sym (times-of s) ∙ c .if1 .taken)
 
 loop-holds : tie.Need-loop-holds Inv-loop μ-loop
-loop-holds c = 
+loop-holds c =
     let s = c .before .before in
     (omega arith, refl, λ b l. getD-replicate 9 b 0 0 l ∙ none-yet (now (s .args .header)) (s .args .datum) b)
 
@@ -70,7 +70,7 @@ add-note c = omega (arith, within (c .before .before))
 
 cast-note : tie.Need-cast-note Inv-loop μ-loop
 unfolding cardsIn
-cast-note c = 
+cast-note c =
     let t = c .before .before in
     let s = t .before .before .before .before in
     omega (arith, few-cards (now (s .args .header)) (s .pre .0), t .loop-test .taken)
@@ -85,7 +85,7 @@ loop-less : tie.Need-loop-less Inv-loop μ-loop
 loop-less c = search needs
 
 loop-again : tie.Need-loop-again Inv-loop μ-loop
-loop-again c = 
+loop-again c =
     let e = c .before in
     let t = e .before .before in
     let b = t .before .loop in
@@ -97,13 +97,13 @@ loop-again c =
       omega (arith, t .loop-test .taken),
       c .note .ensures .0,
       λ d l. c .note .ensures .1 d l
-      ∙ card-more h (a .t2) (s .pre .1) (a .datum) (λ z. i .if1 .left (times-of s ∙ z)) (b .place) (e .far-end .result) far d l
-      (getD (b .row) d 0) (b .inv .2 d l),
+          ∙ card-more h (a .t2) (s .pre .1) (a .datum) (λ z. i .if1 .left (times-of s ∙ z)) (b .place) (e .far-end .result) far d l
+          (getD (b .row) d 0) (b .inv .2 d l),
     )
 
 returns-2 : tie.Need-returns-2 Inv-loop μ-loop
 unfolding joining cardsIn
-returns-2 c = 
+returns-2 c =
     let b = c .before .loop in
     let i = c .before .before in
     let s = i .before .before in

@@ -35,7 +35,7 @@ array-read-if1 c = search needs
 
 returns : tie.Need-returns Inv-loop μ-loop
 unfolding twiceIn
-returns c = 
+returns c =
     let t = c .before in
     let b = t .before .loop in
     let p = often (t .before .before .args .t1) in
@@ -49,7 +49,7 @@ loop-less : tie.Need-loop-less Inv-loop μ-loop
 loop-less c = search needs
 
 loop-again : tie.Need-loop-again Inv-loop μ-loop
-loop-again c = 
+loop-again c =
     let t = c .before in
     let b = t .before .loop in
     let l = t .before .before .args .t1 in
@@ -57,7 +57,7 @@ loop-again c =
 
 returns-2 : tie.Need-returns-2 Inv-loop μ-loop
 unfolding twiceIn
-returns-2 c = 
+returns-2 c =
     let b = c .before .loop in
     let p = often (c .before .before .args .t1) in
     let e : first p 9 ≡ b .datum = b .inv .1 ∙ over p 9 (b .datum) (omega (arith, c .loop-test .left)) in

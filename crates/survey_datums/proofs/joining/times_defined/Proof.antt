@@ -21,7 +21,7 @@ in-header-requires : tie.Need-in-header-requires
 in-header-requires c κs = search needs
 
 returns : tie.Need-returns
-returns c = 
+returns c =
     let n = c .before in
     let s = n .before .before in
     let a = s .args in

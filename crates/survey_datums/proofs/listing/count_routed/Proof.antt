@@ -34,7 +34,7 @@ bit-of-requires : tie.Need-bit-of-requires Inv-loop μ-loop
 bit-of-requires c κs = search needs
 
 add-number : tie.Need-add-number Inv-loop μ-loop
-add-number c = 
+add-number c =
     let t = c .before in
     let b = t .before .loop in
     omega (arith, c .bit-of .ensures .1, b .inv .0, b .inv .1, count-le (has-route (t .before .before .args .t1)) (b .datum))
@@ -46,7 +46,7 @@ loop-less : tie.Need-loop-less Inv-loop μ-loop
 loop-less c = search needs
 
 loop-again : tie.Need-loop-again Inv-loop μ-loop
-loop-again c = 
+loop-again c =
     let t = c .before in
     let b = t .before .loop in
     let p = has-route (t .before .before .args .t1) in
@@ -54,7 +54,7 @@ loop-again c =
 
 returns : tie.Need-returns Inv-loop μ-loop
 unfolding routed
-returns c = 
+returns c =
     let b = c .before .loop in
     let e : b .datum ≡ 9 = omega (arith, b .inv .0, c .loop-test .left) in
     b .inv .1 ∙ ap (count (has-route (c .before .before .args .t1))) e

@@ -25,30 +25,30 @@ room-in-requires : tie.Need-room-in-requires Inv-loop μ-loop
 room-in-requires c κs = search needs
 
 loop-holds : tie.Need-loop-holds Inv-loop μ-loop
-loop-holds c = 
+loop-holds c =
     let s = c .before .before in
     let a = s .args in
     (omega arith, refl, fill-begins (numberAt (a .shifts) (a .cards)) (now (a .list)), refl)
 
 number-at-requires : tie.Need-number-at-requires Inv-loop μ-loop
-number-at-requires c κs = 
+number-at-requires c κs =
     let r = c .before .before in
     omega (arith, c .loop-test .taken, r .room-in .ensures, room-small (length (now (r .before .before .args .list))))
 
 mul-list : tie.Need-mul-list Inv-loop μ-loop
-mul-list c = 
+mul-list c =
     let t = c .before in
     let r = t .before .before in
     omega (arith, t .loop-test .taken, r .room-in .ensures, room-small (length (now (r .before .before .args .list))))
 
 slice-write-list : tie.Need-slice-write-list Inv-loop μ-loop
-slice-write-list c = 
+slice-write-list c =
     let t = c .before in
     let r = t .before .before in
     omega (arith, t .loop-test .taken, r .room-in .ensures, t .before .loop .inv .1, room-within (length (now (r .before .before .args .list))))
 
 add-i : tie.Need-add-i Inv-loop μ-loop
-add-i c = 
+add-i c =
     let t = c .before in
     let r = t .before .before in
     omega (arith, t .loop-test .taken, r .room-in .ensures, room-small (length (now (r .before .before .args .list))))
@@ -57,7 +57,7 @@ loop-less : tie.Need-loop-less Inv-loop μ-loop
 loop-less c = search needs
 
 loop-again : tie.Need-loop-again Inv-loop μ-loop
-loop-again c = 
+loop-again c =
     let t = c .before in
     let b = t .before .loop in
     let r = t .before .before in
@@ -67,7 +67,7 @@ loop-again c =
       omega (arith, t .loop-test .taken),
       length-set (b .list) (b .i) x ∙ b .inv .1,
       fill-next f (b .list) (b .i) x
-      (omega (arith, t .loop-test .taken, r .room-in .ensures, b .inv .1, room-within (length (now (a .list))))) (b .inv .2) (c .number-at .ensures),
+          (omega (arith, t .loop-test .taken, r .room-in .ensures, b .inv .1, room-within (length (now (a .list))))) (b .inv .2) (c .number-at .ensures),
       behind f (b .list) (now (a .list)) (b .i) x (b .inv .3),
     )
 
@@ -75,7 +75,7 @@ same-length : tie.Need-same-length Inv-loop μ-loop
 same-length c = c .before .loop .inv .1
 
 returns : tie.Need-returns Inv-loop μ-loop
-returns c = 
+returns c =
     let b = c .before .loop in
     let r = c .before .before in
     let a = r .before .before .args in

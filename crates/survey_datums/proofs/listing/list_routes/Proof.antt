@@ -25,7 +25,7 @@ same-length : tie.Need-same-length
 same-length c = search needs
 
 returns : tie.Need-returns
-returns c = 
+returns c =
     let y = c .before .before .before in
     let e = y .before .before in
     let f = e .before .before .before .before in
@@ -34,7 +34,7 @@ returns c =
     (c .count-routed .result) (c .count-routed .ensures) _ (y .lay .ensures)
 
 returns-2 : tie.Need-returns-2
-returns-2 c = 
+returns-2 c =
     let k = c .before in
     let f = k .before .before .before .before in
     let a = f .before .before .before .args in
