@@ -1,24 +1,21 @@
 -- What is promised of the routes between datums. Datums are counted from 0 here, so 0 is datum 1; cards count from 1.
-use Prim.Native.Nat.{ℕ, suc, _≤_, _<_}
-use mathlib.Core.Path.{_≡_, ap, _∙_}
+use Prim.Native.Nat.{ℕ, suc, _+_, _≤_, _<_}
+use mathlib.Core.Path.{_≡_}
 use mathlib.Core.Logic.{_↔_}
 use mathlib.Core.Bool.{true, false}
-use mathlib.Core.List.{List, [], _∷_}
-use lib.ListN.{length, getD}
-use borrow.Author.Tests.{lt-ltb}
-use Rattle.base_lists.specs.Parts.{part}
+use mathlib.Core.List.{List}
+use lib.ListN.{length}
 use Rattle.base_refusal.specs.declared.Refusal.{Refusal}
 use Rattle.base_refusal.specs.Refusals.{refusal}
 use Rattle.header_check.specs.declared.Checked.the-variants.{Accepted, Refused}
-use Rattle.header_check.specs.forms.Cards.{cardAt, cardsIn}
 use Rattle.header_check.specs.Refusing.{refusalOf}
-use Rattle.survey_routes.specs.Chains.{distance, route, routeFrom, next}
-use Rattle.survey_datums.specs.declared.Routes.{Routes}
-use Rattle.survey_datums.specs.Datums.{isDefined, someTwice, joining}
-use Rattle.survey_datums.specs.Chains.{Joined, Chain}
-use Rattle.survey_datums.specs.Answer.{shiftsTold, toldOf, refusedWith, routesFor, routesOf}
+use Rattle.survey_routes.specs.Chains.{distance, routeFrom, next}
+use Rattle.survey_datums.specs.Datums.{isDefined, someTwice}
+use Rattle.survey_datums.specs.Chains.{Chain}
+use Rattle.survey_datums.specs.Answer.{shiftsTold, toldOf, refusedWith, routesFor, routesOf, wayOf, numberOf}
 use Rattle.survey_datums.proofs.Chained as chained
 use Rattle.survey_datums.proofs.Moved as moved
+use Rattle.survey_datums.proofs.Ways as ways
 use Rattle.promises.specs.Words.{Moved}
 
 -- A refused header's refusal comes first, then 22 where a datum is defined more than once; else the routes are told.
@@ -43,6 +40,10 @@ module _ (h : List ℕ) (a : ℕ) (there : a < 9) where
   pub distance-told : isDefined h a ≡ true → shiftsTold h a ≡ distance (chained.by h) a
   unfolding shiftsTold
   distance-told e = rw e
+
+  -- so is what is told of it alone, by the number of its case
+  pub way-told : numberOf (wayOf (toldOf h) (a + 1)) ≡ shiftsTold h a
+  way-told = ways.way-told h a there
 
   -- there is no route exactly if no chain of cards, however long, leads to datum 1
   pub no-route : (distance (chained.by h) a ≡ 9) ↔ ((cs : List ℕ) → Chain h a cs → ⊥)

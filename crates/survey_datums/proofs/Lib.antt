@@ -4,3 +4,4 @@ pub mod Placing
 pub mod Chained
 pub mod Moved
 pub mod Laying
+pub mod Ways
