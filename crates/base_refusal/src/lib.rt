@@ -53,6 +53,16 @@ pub const NO_CARDS_LEFT: usize = 20;
 // Of the datums of a header: one is defined more than once.
 pub const DATUM_TWICE: usize = 22;
 
+// Of a heading: a serial that is not defined exactly once, or has not exactly one card of corrections; a line direction outside
+// 0 to 360, or one that the card lists twice; a raw reading outside 0 to under 360, or with too many places.
+pub const NO_COMPASS: usize = 23;
+
+pub const NO_CORRECTIONS: usize = 24;
+
+pub const NO_DIRECTION: usize = 25;
+
+pub const NO_READING: usize = 26;
+
 // A refusal's number, card and column: 0 for a card or a column where there is none.
 pub struct Refusal {
     pub number: usize,
