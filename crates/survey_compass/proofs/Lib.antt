@@ -1,0 +1,7 @@
+pub mod Bounds
+pub mod Listed
+pub mod Nearest
+pub mod Reading
+pub mod Reordered
+pub mod Told
+pub mod Turning
