@@ -1,4 +1,5 @@
 pub mod Bounds
+pub mod Laws
 pub mod Listed
 pub mod Nearest
 pub mod Reading

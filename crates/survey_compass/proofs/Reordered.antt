@@ -29,7 +29,7 @@ use Rattle.survey_compass.specs.Pairs.{Reordered}
 use Rattle.survey_compass.proofs.Nearest.{mark-low, apart-low, rank-some, rank-none, least-had, nearest-below}
 
 -- two directions, counted from 1, of one rank
-low : (m : ℕ) → (m ≡ 0 → ⊥) → m ≤ 360 → m - 1 < 360
+pub low : (m : ℕ) → (m ≡ 0 → ⊥) → m ≤ 360 → m - 1 < 360
 low m h l = omega arith
 
 level : (f g m n : ℕ) → m < 360 → n < 360 → 360 * f + m ≡ 360 * g + n → m ≡ n
@@ -57,7 +57,7 @@ module _ (s : List ℕ) (asked : ℕ) where
   least-most (suc n) = omega (arith, least-most n)
 
   -- the nearest pair has the least rank
-  nearest-has : (leastRank s asked ≡ unlisted → ⊥) → rankAt s asked (nearest s asked) ≡ leastRank s asked
+  pub nearest-has : (leastRank s asked ≡ unlisted → ⊥) → rankAt s asked (nearest s asked) ≡ leastRank s asked
   unfolding nearest isNearest
   nearest-has h = eqb-true _ _ (first-passes (isNearest s asked) 8 (nearest-below s asked h))
 
@@ -75,7 +75,7 @@ module _ (s : List ℕ) (asked : ℕ) where
     ]
   ]
 
-  unranked : (i : ℕ) → markAt s i ≡ 0 → rankAt s asked i ≡ unlisted
+  pub unranked : (i : ℕ) → markAt s i ≡ 0 → rankAt s asked i ≡ unlisted
   unfolding rankAt
   unranked i z = sym (rank-none asked (markAt s i) z)
 
