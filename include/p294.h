@@ -73,7 +73,11 @@ enum {
     P294_NO_TRAILER = 18,   /* a volume's stated number of cards, its trailer, or what that points at; card and column 0 */
     P294_NO_DIRECTORY = 19, /* a volume's directory; card and column 0 */
     P294_NO_CARDS_LEFT = 20, /* a volume would have more cards than it may or than the buffer holds; card and column 0 */
-    P294_DATUM_TWICE = 22   /* routes: a datum is defined more than once; card and column 0 */
+    P294_DATUM_TWICE = 22,   /* routes: a datum is defined more than once; card and column 0 */
+    P294_NO_COMPASS = 23,     /* heading: the serial is not defined exactly once; card and column 0, as of all that follow */
+    P294_NO_CORRECTIONS = 24, /* heading: there is not exactly one H23@0 card for the serial */
+    P294_NO_DIRECTION = 25,   /* heading: a direction outside 0..360, or the card lists one twice (0 beside 360 counts) */
+    P294_NO_READING = 26      /* heading: a raw reading below 0 or not below 360, or with more than 11 places */
 };
 
 /* Kinds of value, with the numbers that go with each. */
@@ -213,6 +217,15 @@ int64_t p294_routes(const uint8_t *header, size_t length, uint32_t *list, size_t
 
 /* How many numbers a datum has in that list; and what stands for a number of shifts. */
 enum { P294_ROUTE = 9, P294_NO_ROUTE = 9, P294_NOT_DEFINED = 10 };
+
+/* The corrected heading of the compass with a serial: the raw reading, the fixed correction of its H23@0 card, and the
+ * correction for the listed direction that is nearest to the line's, summed exactly and taken into 0 to under 360 degrees by
+ * whole turns. raw are units with raw_places digits behind the point, direction whole degrees of 0 to 360. said is
+ * P294_DECIMAL, and numbers are the units and the places of the heading: the largest number of places among those that were
+ * summed. Nearest goes round the circle, 360 being 0; of two as near the smaller counts. A correction that is blank adds
+ * nothing. Blanks behind the serial do not count. Refused as p294_check refuses the header, then 23, 24, 25, 26. */
+int64_t p294_heading(const uint8_t *header, size_t length, const uint8_t *serial, size_t serial_length, int64_t raw,
+                     size_t raw_places, int64_t direction, int64_t *numbers, size_t room);
 
 #ifdef __cplusplus
 }

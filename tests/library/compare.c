@@ -1,5 +1,5 @@
-// Compares libp294.a with the second implementation on random and damaged cards, headers, diskette files, tapes, volumes and
-// routes between datums. Usage: compare SEED CARDS HEADERS TIES FILES TAPES VOLUMES ROUTES
+// Compares libp294.a with the second implementation on random and damaged cards, headers, diskette files, tapes, volumes,
+// routes between datums and headings. Usage: compare SEED CARDS HEADERS TIES FILES TAPES VOLUMES ROUTES HEADINGS
 #include "compare.h"
 
 #include <stdio.h>
@@ -72,8 +72,8 @@ void hold_list(const struct input *in, const uint32_t *should, const uint32_t *i
 
 int main(int argc, char **argv)
 {
-    if (argc != 9) {
-        fprintf(stderr, "usage: compare SEED CARDS HEADERS TIES FILES TAPES VOLUMES ROUTES\n");
+    if (argc != 10) {
+        fprintf(stderr, "usage: compare SEED CARDS HEADERS TIES FILES TAPES VOLUMES ROUTES HEADINGS\n");
         return 2;
     }
     uint64_t seed = strtoull(argv[1], NULL, 10);
@@ -84,5 +84,6 @@ int main(int argc, char **argv)
     missing |= compare_tapes(seed, strtoul(argv[6], NULL, 10));
     missing |= compare_volumes(seed, strtoul(argv[7], NULL, 10));
     missing |= compare_routes(seed, strtoul(argv[8], NULL, 10));
+    missing |= compare_headings(seed, strtoul(argv[9], NULL, 10));
     return missing ? EXIT_FAILURE : EXIT_SUCCESS;
 }

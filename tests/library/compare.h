@@ -49,5 +49,6 @@ int compare_media(uint64_t seed, unsigned long count);
 int compare_tapes(uint64_t seed, unsigned long count);
 int compare_volumes(uint64_t seed, unsigned long count);
 int compare_routes(uint64_t seed, unsigned long count);
+int compare_headings(uint64_t seed, unsigned long count);
 
 #endif

@@ -11,6 +11,7 @@ use card_put::opening::Opened;
 use media_diskette::Converted;
 use media_ebcdic::Translated;
 use survey_datums::listing::Listed;
+use survey_compass::Heading;
 use tie_check::Ties;
 use tie_lookup::questions::Defined;
 use volume_check::Counted;
@@ -18,7 +19,7 @@ use volume_check::Found;
 use volume_edit::Volume;
 ghost use mathlib.Core.Path.{_≡_};
 ghost use mathlib.Core.Bool.{false};
-ghost use Rattle.p294.specs.answers.Replies.{plain, refusedReply, doneReply, mark, valueReply, fieldReply, textAlone, enteredReply, openedReply, countReply, onlyReply, tiesReply, keyReply, convertedReply, translatedReply, linesReply, lineReply, volumeReply, routesReply};
+ghost use Rattle.p294.specs.answers.Replies.{plain, refusedReply, doneReply, mark, valueReply, fieldReply, textAlone, enteredReply, openedReply, countReply, onlyReply, tiesReply, keyReply, convertedReply, translatedReply, linesReply, lineReply, volumeReply, routesReply, headingReply};
 
 // What the answer with a text says.
 const TEXT: i64 = 5;
@@ -301,5 +302,15 @@ pub fn of_routes(listed: Listed) -> Reply
     match listed {
         Listed::Routed(n) => counted(n),
         Listed::Refused(r) => refused(r),
+    }
+}
+
+// What came of asking for a heading.
+pub fn of_heading(heading: Heading) -> Reply
+    ensures { λ r. ⌜ r ≡ headingReply heading ⌝ }
+{
+    match heading {
+        Heading::Is(d) => of_decimal(d, false),
+        Heading::Refused(r) => refused(r),
     }
 }

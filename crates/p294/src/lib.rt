@@ -4,6 +4,7 @@ pub mod answers;
 pub mod offered;
 
 use crate::answers::Reply;
+use base_value::Decimal;
 use card_put::opening;
 ghost use mathlib.Core.Path.{_≡_};
 ghost use mathlib.Core.List.{[], _∷_, _++_};
@@ -27,8 +28,10 @@ ghost use Rattle.volume_check.specs.Answers.{linesOf, foundOf};
 ghost use Rattle.volume_edit.specs.Written.{emptyAnswer, appendAnswer, leftBy as volumeLeft};
 ghost use Rattle.survey_datums.specs.Answer.{routesOf};
 ghost use Rattle.survey_datums.specs.Listing.{listedOf, listFor as routesIn};
+ghost use Rattle.base_value.specs.Sums.{decimal};
+ghost use Rattle.survey_compass.specs.Headings.{headingOf};
 ghost use Rattle.p294.specs.offered.Offers.{offeredOf, keyOf, keyTextOf};
-ghost use Rattle.p294.specs.answers.Replies.{fieldReply, textReply, enteredReply, openedReply, tiesReply, keyReply, convertedReply, translatedReply, linesReply, lineReply, volumeReply, routesReply};
+ghost use Rattle.p294.specs.answers.Replies.{fieldReply, textReply, enteredReply, openedReply, tiesReply, keyReply, convertedReply, translatedReply, linesReply, lineReply, volumeReply, routesReply, headingReply};
 ghost use Rattle.p294.specs.Given.{given};
 
 // How many numbers go with an answer.
@@ -304,4 +307,28 @@ pub extern "C" fn p294_routes(header: &[u8], list: &mut [u32], numbers: &mut [i6
 {
     let reply = answers::of_routes(survey_datums::listing::list_routes(header, list));
     give(numbers, reply)
+}
+
+// The corrected heading of the compass with a serial, by a raw reading of units with places and the direction of the line.
+#[no_mangle]
+pub extern "C" fn p294_heading(
+    header: &[u8],
+    serial: &[u8],
+    raw: i64,
+    places: usize,
+    direction: i64,
+    numbers: &mut [i64],
+) -> i64
+    ensures said { λ r. ⌜ r
+        ≡ headingReply (headingOf (now (header .entry)) (now (serial .entry)) (decimal raw places) direction) .said ⌝ }
+    ensures numbers { λ _. ⌜ now (numbers .exit)
+        ≡ given (now (numbers .entry)) (headingReply (headingOf (now (header .entry)) (now (serial .entry)) (decimal raw places) direction)) ⌝ }
+{
+    let heading = survey_compass::find_heading(
+        header,
+        serial,
+        Decimal::new(raw, places),
+        direction,
+    );
+    give(numbers, answers::of_heading(heading))
 }

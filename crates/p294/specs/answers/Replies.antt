@@ -30,6 +30,8 @@ use Rattle.volume_check.specs.declared.Found.{Found}
 use Rattle.volume_check.specs.declared.Found.the-variants as found
 use Rattle.volume_edit.specs.declared.Volume.{Volume}
 use Rattle.volume_edit.specs.declared.Volume.the-variants as volume
+use Rattle.survey_compass.specs.declared.Heading.{Heading}
+use Rattle.survey_compass.specs.declared.Heading.the-variants as heading
 use Rattle.p294.specs.declared.answers.Reply.{Reply}
 
 abbrev pub reply : ℤ → ℤ → ℤ → ℤ → Reply
@@ -144,3 +146,8 @@ volumeReply (volume.Refused r) = refusedReply r
 unfoldable pub routesReply : Listed → Reply
 routesReply (listed.Routed n) = countReply n
 routesReply (listed.Refused r) = refusedReply r
+
+-- a heading: 2, its units and places, as a decimal that is read; or its refusal
+unfoldable pub headingReply : Heading → Reply
+headingReply (heading.Is d) = valueReply false (Decimal d)
+headingReply (heading.Refused r) = refusedReply r
