@@ -26,8 +26,10 @@ extern void proved(void) __asm__("main");
 ssize_t read(int file, void *to, size_t size);
 ssize_t write(int file, const void *from, size_t size);
 
-/* Hands a word to the proved program, behind those before it. */
+/* No program has more forms of arguments, or is handed more words. */
 enum { MOST_WORDS = 8 };
+
+/* Hands a word to the proved program, behind those before it. */
 void hand(const char *word);
 
 /* The error of the last call that failed, and its words. */

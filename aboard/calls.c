@@ -21,6 +21,7 @@ long kernel(long number, long first, long second, long third)
     return answer;
 }
 
+/* The C library's two that compiled code calls. */
 void *memcpy(void *to, const void *from, size_t size)
 {
     void *start = to;
@@ -94,6 +95,7 @@ ssize_t write(int file, const void *from, size_t size)
     return tried && file == STANDARD_OUTPUT ? compare(from, size) : noted(kernel(CALL_WRITE, file, (long)from, (long)size));
 }
 
+/* The error, as the library os asks for it and sets it. */
 int rattle_errno(void)
 {
     return error;

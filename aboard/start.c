@@ -9,6 +9,7 @@ enum { STAT_SIZE = 36, STAT_MODE = 6, KIND = 0170000, DIRECTORY = 0040000 };
 
 __asm__(".globl _start\n_start:\n xor %ebp, %ebp\n mov %rsp, %rdi\n and $-16, %rsp\n call begin\n");
 
+/* The number of a text's bytes, without the 0 behind them. */
 static size_t length_of(const char *text)
 {
     size_t length = 0;
@@ -17,6 +18,7 @@ static size_t length_of(const char *text)
     return length;
 }
 
+/* Whether two texts are the same. */
 static int same(const char *a, const char *b)
 {
     while (*a && *a == *b)
@@ -37,18 +39,27 @@ static int write_all(int file, const char *text, size_t left)
     return 1;
 }
 
+/* Says a text on standard error; where that fails too there is nobody to tell. */
 static void say(const char *text)
 {
     write_all(STANDARD_ERROR, text, length_of(text));
 }
 
-/* Says why a file is not read. */
-static int refuse(const char *file, const char *why)
+/* Says what is wrong with what. */
+static void complain(const char *what, const char *wrong)
 {
     say(program);
     say(": ");
-    say(file);
-    say(why);
+    say(what);
+    say(": ");
+    say(wrong);
+    say("\n");
+}
+
+/* Says why a file is not read. */
+static int refuse(const char *file, const char *why)
+{
+    complain(file, why);
     return WRONG_CALL;
 }
 
@@ -57,10 +68,7 @@ static int tell(const char *text)
 {
     if (write_all(STANDARD_OUTPUT, text, length_of(text)))
         return ANSWERED;
-    say(program);
-    say(": standard output: ");
-    say(words_of(error));
-    say("\n");
+    complain("standard output", words_of(error));
     return FAILED;
 }
 
@@ -90,24 +98,27 @@ static int ends(char byte)
     return byte == '|' || byte == ']' || byte == ' ' || byte == 0;
 }
 
+/* Whether an argument is the word that begins here. */
+static int is_word(const char *form, const char *argument)
+{
+    while (!ends(*form) && *argument == *form)
+        argument++, form++;
+    return !*argument && ends(*form);
+}
+
 /* Whether an argument is one of a form's words. */
 static int is_among(const char *form, const char *argument)
 {
-    for (;;) {
-        size_t i = 0;
-        while (argument[i] && argument[i] == form[i])
-            i++;
-        if (!argument[i] && ends(form[i]))
-            return 1;
+    while (!is_word(form, argument)) {
         while (!ends(*form))
             form++;
-        if (*form != '|')
+        if (*form++ != '|')
             return 0;
-        form++;
     }
+    return 1;
 }
 
-/* Says how the program is called, with the words that were understood. */
+/* Says how the program is called: each form, or the word in its place that was understood. */
 static int say_usage(const char *const *understood)
 {
     say(program);
@@ -130,12 +141,12 @@ static int open_input(const char *file)
 {
     unsigned about[STAT_SIZE];
     if (kernel(CALL_STAT, (long)file, (long)about, 0) < 0)
-        return refuse(file, ": no such file\n");
+        return refuse(file, "no such file");
     if ((about[STAT_MODE] & KIND) == DIRECTORY)
-        return refuse(file, ": is a directory\n");
+        return refuse(file, "is a directory");
     long opened = kernel(CALL_OPEN, (long)file, 0, 0);
     if (opened < 0)
-        return refuse(file, ": cannot be read\n");
+        return refuse(file, "cannot be read");
     if (opened != STANDARD_INPUT) {
         kernel(CALL_DUP2, opened, STANDARD_INPUT, 0);
         kernel(CALL_CLOSE, opened, 0, 0);
@@ -182,7 +193,7 @@ static int try_samples(void)
         try_sample(sample);
         proved();
         if (!trial_holds())
-            refuse(sample->name, ": the answer is another\n");
+            complain(sample->name, "the answer is another");
     }
     try_sample(0);
     return complained ? FAILED : tell("ok\n");
