@@ -169,7 +169,7 @@ static int run(char **argument)
             return say_usage(understood);
         }
         if (is_among(form + spare, "FILE"))
-            file = *argument;
+            file = spare || !same(*argument, "-") ? *argument : 0;
         else
             hand(*argument);
         if (!any)
