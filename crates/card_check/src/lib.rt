@@ -171,11 +171,14 @@ fn judge_columns(card: &[u8], layout: usize, form: Form, from: usize) -> Verdict
     }
 }
 
-// A card of a read code: its label, and then its columns.
+// A card of a read code: fine if the screen is sure of it; otherwise its label, and then its columns.
 fn judge_read(card: &[u8], layout: usize, form: Form) -> Verdict
     requires { ⌜ length (now card) ≡ 80 ⌝ }
     ensures { λ r. ⌜ r ≡ verdictFrom (offenceAt layout form (now (card .entry))) 6 ⌝ }
 {
+    if card_screen::is_fine(card, layout) {
+        return Verdict::Fine;
+    }
     if !label_stands(card, layout) {
         return Verdict::Offence(MISLABELLED, 6);
     }

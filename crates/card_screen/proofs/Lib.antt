@@ -1,0 +1,10 @@
+pub mod Lines
+pub mod Rows
+pub mod Runs
+pub mod Steps
+pub mod Sixteen
+pub mod Whole
+pub mod Decimals
+pub mod Texts
+pub mod Fields
+pub mod Cards
