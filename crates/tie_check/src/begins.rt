@@ -156,12 +156,15 @@ fn some_left(card: &[u8], layout: usize) -> bool
     }
 }
 
-// Whether a card has a misplaced number at all.
+// Whether a card has a misplaced number at all: none that the screen is sure of has.
 pub fn any_left(card: &[u8], layout: usize) -> bool
     requires { ⌜ length (now card) ≡ 80 ⌝ }
     ensures { λ r. ⌜ r ≡ anyLeft (now (card .entry)) (fieldsOf layout) ⌝ }
 {
     if !may_be_left(card, layout) {
+        return false;
+    }
+    if card_screen::is_fine(card, layout) {
         return false;
     }
     some_left(card, layout)

@@ -18,6 +18,8 @@ use Rattle.format_layout.specs.declared.Form.the-variants.{Angles}
 use Rattle.format_layout.specs.Table.{layouts}
 use Rattle.format_layout.specs.Layouts.{layoutAt, fieldsOf, labelOf}
 use Rattle.format_layout.proofs.Columns.{inOrder, front, rest}
+use Rattle.card_screen.specs.Roles.{sure}
+use Rattle.card_screen.proofs.Cards.{Clean, clean}
 use Rattle.card_check.proofs.Walked.{in-order}
 use Rattle.card_field.specs.needing.Needs.{columnsOf}
 use Rattle.card_field.specs.judging.Fields.{spellingOf, misplacedOn}
@@ -99,6 +101,15 @@ spared s size layout k cs is ends b e q =
     ap (λ j. anyLeft s (fieldsOf j)) is
     ∙ ends-none s size (6 + length (labelOf k)) (fieldsOf k) (in-order k) (omega arith) false
     (ap (λ l. blankAmong false l s) ends ∙ sym e ∙ q)
+
+-- a card of which the screen is sure has none
+clean-none : (k : ℕ) (s : List ℕ) (c : ℕ) (fs : List Field) → Clean k s c fs → anyLeft s fs ≡ false
+unfolding anyLeft
+clean-none k s c [] h = refl
+clean-none k s c (f ∷ fs) h = rw (h .1 Angles .1) (clean-none k s (f .last + 1) fs (h .2))
+
+pub sure-none : (k : ℕ) (s : List ℕ) → length s ≡ 80 → sure k s ≡ true → false ≡ anyLeft s (fieldsOf k)
+sure-none k s size h = sym (clean-none k s 6 (fieldsOf k) (clean k s size h))
 
 -- those of H21@0, H21@1, H22@0 and H23@0
 pub streamer-ends : numberEnds (fieldsOf 18) ≡ 9 ∷ 17 ∷ 25 ∷ 32 ∷ 41 ∷ 49 ∷ 56 ∷ 64 ∷ 71 ∷ []

@@ -1,7 +1,8 @@
 -- `tie_check::begins::any_left` meets its contract.
-use mathlib.Core.Path.{sym}
+use mathlib.Core.Path.{sym, _∙_}
 use borrow.Author.Tests.{not-true}
 use borrow.Author.Needs.{needs}
+use Rattle.tie_check.proofs.begins.Ends.{sure-none}
 use Rattle.tie_check.proofs.begins.any_left.Statement.{statement}
 use Rattle.tie_check.proofs.begins.any_left.Tie as tie
 
@@ -11,11 +12,17 @@ may-be-left-requires c κs = search needs
 returns : tie.Need-returns
 returns c = sym (c .before .may-be-left .ensures (not-true _ (c .if1 .taken)))
 
+is-fine-requires : tie.Need-is-fine-requires
+is-fine-requires c κs = search needs
+
+returns-2 : tie.Need-returns-2
+returns-2 c = (sure-none _ _ (c .before .before .before .before .before .pre) (sym (c .before .is-fine .ensures) ∙ c .if2 .taken))
+
 some-left-requires : tie.Need-some-left-requires
 some-left-requires c κs = search needs
 
-returns-2 : tie.Need-returns-2
-returns-2 c = c .some-left .ensures
+returns-3 : tie.Need-returns-3
+returns-3 c = c .some-left .ensures
 
 pub any-left-spec : {M : Type 1} → statement M
-any-left-spec = tie.close (tie.spec may-be-left-requires returns some-left-requires returns-2)
+any-left-spec = tie.close (tie.spec may-be-left-requires returns is-fine-requires returns-2 some-left-requires returns-3)
