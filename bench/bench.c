@@ -1,7 +1,8 @@
-// Times the proved library, the second implementation and one bare pass over the bytes, in turns, and prints the least time
-// of each with the ratios; then how time grows with the cards, and how deep the library goes into the stack.
-// It first holds the answers of the two to each other on all that is timed, and ends where they differ.
-// Usage: bench [SECONDS [FILE]]; the least times in the file, left there by the same program at other addresses, count too.
+// Times the proved library, the second implementation, the yardstick (of checks) and one bare pass over the bytes, in turns, and
+// prints the least time of each with the ratios; then how time grows with the cards, and how deep the library goes into the stack.
+// It first holds the answers to each other on all that is timed, and ends where they differ.
+// Usage: bench [SECONDS [FILE [count]]]; the least times in the file, left there by the same program at other addresses, count too.
+// With `count` it also steps through the checks and prints their instructions, which takes minutes.
 #define _GNU_SOURCE
 #include "../include/p294.h"
 #include "../second/ebcdic.h"
@@ -9,6 +10,8 @@
 #include "headers.h"
 #include "logger.h"
 #include "season.h"
+#include "steps.h"
+#include "yardstick.h"
 
 #include <stdio.h>
 #include <stdlib.h>
@@ -16,7 +19,7 @@
 #include <time.h>
 #include <ucontext.h>
 
-enum { LIBRARY, SECOND, PASS, RUNNERS };
+enum { LIBRARY, SECOND, YARDSTICK, PASS, RUNNERS };
 enum { MOST_ROWS = 58, MOST_NUMBERS = MOST_FAULTS * ENTRY_SIZE, SOME_CARDS = 16, CARD_CALLS = 512 };
 
 enum operation { CHECK, KEY, READ, PUT, LOG, FROM_TAPE, TO_TAPE, TO_DISK, FROM_DISK, APPEND, LINE };
@@ -38,7 +41,7 @@ struct row {
 static struct row rows[MOST_ROWS];
 static unsigned count;
 
-static uint32_t list[MOST_NUMBERS], second_list[MOST_NUMBERS];
+static uint32_t list[MOST_NUMBERS], second_list[MOST_NUMBERS], swift_list[MOST_NUMBERS];
 static int64_t numbers[P294_NUMBERS];
 static uint8_t logged[LOGGED_CARDS][CARD_SIZE], second_logged[LOGGED_CARDS][CARD_SIZE];
 static uint8_t translated[FEW_CARDS * CARD_SIZE], second_translated[FEW_CARDS * CARD_SIZE];
@@ -124,6 +127,14 @@ static void by_second(struct row *r)
     }
 }
 
+// Only checks have a yardstick.
+static void by_yardstick(struct row *r)
+{
+    size_t faults;
+    for (size_t k = 0; r->operation == CHECK && k < r->calls; k++)
+        sink = check_swiftly(r->header->at, r->header->size, swift_list, MOST_NUMBERS, &faults).number;
+}
+
 // Whether every byte is one that a card may have.
 static __attribute__((noinline)) int pass_over(const uint8_t *bytes, size_t size)
 {
@@ -156,6 +167,11 @@ static void hold_check(struct row *r)
     if (said != (s.number ? -(int64_t)s.number : (int64_t)faults) || numbers[0] != s.number || numbers[1] != s.card ||
         numbers[2] != s.column || memcmp(list, second_list, sizeof list) != 0)
         fail(r, "the answers differ");
+    size_t found = 0;
+    memset(swift_list, 0, sizeof swift_list);
+    struct refusal y = check_swiftly(r->header->at, r->header->size, swift_list, MOST_NUMBERS, &found);
+    if (y.number != s.number || y.card != s.card || y.column != s.column || found != faults || memcmp(list, swift_list, sizeof list) != 0)
+        fail(r, "the yardstick's answer differs");
 }
 
 static void hold_read(struct row *r, const uint8_t *card)
@@ -382,7 +398,7 @@ static double now(clockid_t clock)
 // In the processor's time, so that others on a busy machine are not counted.
 static void time_once(struct row *r)
 {
-    static void (*const runners[RUNNERS])(struct row *) = {by_library, by_second, by_pass};
+    static void (*const runners[RUNNERS])(struct row *) = {by_library, by_second, by_yardstick, by_pass};
     for (int i = 0; i < RUNNERS; i++) {
         double from = now(CLOCK_THREAD_CPUTIME_ID);
         runners[i](r);
@@ -430,7 +446,8 @@ static void store_least(const char *path)
         fail(rows, "the file of least times cannot be written");
     fprintf(file, "%u %u\n", rounds, addresses);
     for (const struct row *r = rows; r < rows + count; r++)
-        fprintf(file, "%.17g %.17g %.17g\n", r->least[LIBRARY], r->least[SECOND], r->least[PASS]);
+        for (int i = 0; i < RUNNERS; i++)
+            fprintf(file, "%.17g%c", r->least[i], i + 1 < RUNNERS ? ' ' : '\n');
     if (fclose(file) != 0)
         fail(rows, "the file of least times cannot be written");
 }
@@ -451,20 +468,28 @@ static void print_rows(void)
     printf("Least of %u rounds at %u addresses, in microseconds of the processor's time a call. Headers are of 800 cards,\n"
            "the volume of %d.\n\n",
            rounds, addresses, MOST_VOLUME);
-    printf("| what | library | second | pass | library / second | library / pass |\n|---|---:|---:|---:|---:|---:|\n");
+    printf("| what | library | second | yardstick | pass | library / second | library / yardstick | library / pass |\n");
+    printf("|---|---:|---:|---:|---:|---:|---:|---:|\n");
     for (const struct row *r = rows; r < rows + count; r++) {
         if (of_other_size(r))
             continue;
         printf("| %s |", r->name);
         for (int i = 0; i < RUNNERS; i++)
-            print_time(r->least[i]);
-        printf(" %.2f | %.1f |\n", r->least[LIBRARY] / r->least[SECOND], r->least[LIBRARY] / r->least[PASS]);
+            if (i != YARDSTICK || r->operation == CHECK)
+                print_time(r->least[i]);
+            else
+                printf(" |");
+        printf(" %.2f |", r->least[LIBRARY] / r->least[SECOND]);
+        if (r->operation == CHECK)
+            printf(" %.2f | %.1f |\n", r->least[LIBRARY] / r->least[YARDSTICK], r->least[LIBRARY] / r->least[PASS]);
+        else
+            printf(" | %.1f |\n", r->least[LIBRARY] / r->least[PASS]);
     }
 }
 
 static void print_growth(void)
 {
-    static const char *const by[RUNNERS] = {"library", "second", "pass"};
+    static const char *const by[RUNNERS] = {"library", "second", "yardstick", "pass"};
     printf("\nMicroseconds by the number of cards, and two by others: 8 and 5.1 where time is the cards'.\n\n");
     printf("| what | by | 100 | 200 | 400 | 800 | 1,600 | 4,096 | 800 / 100 | 4,096 / 800 |\n");
     printf("|---|---|---:|---:|---:|---:|---:|---:|---:|---:|\n");
@@ -476,6 +501,32 @@ static void print_growth(void)
             printf(" %.1f | %.1f |\n", grown[g].rows[FEW]->least[i] / grown[g].rows[0]->least[i],
                    grown[g].rows[MOST]->least[i] / grown[g].rows[FEW]->least[i]);
         }
+}
+
+// Instructions.
+
+static void make_check(void *with)
+{
+    struct row *r = ((void **)with)[0];
+    (*(void (**)(struct row *))((void **)with)[1])(r);
+}
+
+// Of the checks of whole headers; not of serials of one chain, which take too long one step at a time.
+static void print_instructions(void)
+{
+    void (*runners[])(struct row *) = {by_library, by_second, by_yardstick};
+    printf("\nInstructions a card.\n\n| what | library | second | yardstick |\n|---|---:|---:|---:|\n");
+    for (struct row *r = rows; r < rows + count; r++) {
+        if (r->operation != CHECK || is_small(r) || strcmp(r->name, grown[CROWDED].name) == 0)
+            continue;
+        printf("| %s |", r->name);
+        for (int i = 0; i < PASS; i++) {
+            long steps = steps_of(make_check, (void *[]){r, &runners[i]});
+            printf(steps < 0 ? " not counted |" : " %ld |", steps / MOST_CARDS);
+        }
+        printf("\n");
+        fflush(stdout);
+    }
 }
 
 // The stack.
@@ -570,7 +621,7 @@ int main(int argc, char **argv)
     make_rows();
     for (unsigned k = 0; k < count; k++)
         hold(&rows[k]);
-    printf("Both give the same answers in all %u cases.\n", count);
+    printf("All give the same answers in all %u cases.\n", count);
     fflush(stdout);
     time_all(seconds);
     if (argc > 2) {
@@ -580,5 +631,7 @@ int main(int argc, char **argv)
     print_rows();
     print_growth();
     print_stack();
+    if (argc > 3)
+        print_instructions();
     return EXIT_SUCCESS;
 }

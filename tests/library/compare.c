@@ -1,5 +1,6 @@
 // Compares libp294.a with the second implementation on random and damaged cards, headers, diskette files, tapes, volumes,
-// routes between datums and headings. Usage: compare SEED CARDS HEADERS TIES FILES TAPES VOLUMES ROUTES HEADINGS
+// routes between datums and headings, and on headers with bytes changed on one card.
+// Usage: compare SEED CARDS HEADERS TIES FILES TAPES VOLUMES ROUTES HEADINGS CHANGED CHANGED
 #include "compare.h"
 
 #include <stdio.h>
@@ -72,8 +73,8 @@ void hold_list(const struct input *in, const uint32_t *should, const uint32_t *i
 
 int main(int argc, char **argv)
 {
-    if (argc != 10) {
-        fprintf(stderr, "usage: compare SEED CARDS HEADERS TIES FILES TAPES VOLUMES ROUTES HEADINGS\n");
+    if (argc != 11) {
+        fprintf(stderr, "usage: compare SEED CARDS HEADERS TIES FILES TAPES VOLUMES ROUTES HEADINGS CHANGED\n");
         return 2;
     }
     uint64_t seed = strtoull(argv[1], NULL, 10);
@@ -85,5 +86,6 @@ int main(int argc, char **argv)
     missing |= compare_volumes(seed, strtoul(argv[7], NULL, 10));
     missing |= compare_routes(seed, strtoul(argv[8], NULL, 10));
     missing |= compare_headings(seed, strtoul(argv[9], NULL, 10));
+    missing |= compare_changed(seed, strtoul(argv[10], NULL, 10));
     return missing ? EXIT_FAILURE : EXIT_SUCCESS;
 }

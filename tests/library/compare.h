@@ -45,6 +45,7 @@ void hold_list(const struct input *in, const uint32_t *should, const uint32_t *i
 int compare_cards(uint64_t seed, unsigned long count);
 int compare_headers(uint64_t seed, unsigned long count);
 int compare_ties(uint64_t seed, unsigned long count);
+int compare_changed(uint64_t seed, unsigned long count);
 int compare_media(uint64_t seed, unsigned long count);
 int compare_tapes(uint64_t seed, unsigned long count);
 int compare_volumes(uint64_t seed, unsigned long count);
