@@ -170,7 +170,8 @@ static void hold_check(struct row *r)
     size_t found = 0;
     memset(swift_list, 0, sizeof swift_list);
     struct refusal y = check_swiftly(r->header->at, r->header->size, swift_list, MOST_NUMBERS, &found);
-    if (y.number != s.number || y.card != s.card || y.column != s.column || found != faults || memcmp(list, swift_list, sizeof list) != 0)
+    if (y.number != s.number || y.card != s.card || y.column != s.column || found != faults ||
+        memcmp(list, swift_list, sizeof list) != 0)
         fail(r, "the yardstick's answer differs");
 }
 

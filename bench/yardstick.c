@@ -1,6 +1,6 @@
-// A check written for speed alone. It takes the tables of the second implementation, and turns to its code only for the cards that
-// need it: those with a label, a date, a coordinate or an offence, and those with a fault. Every other card is looked at once, a
-// column after the other, by a table of next states for each layout, and each code is found once, by its four digits.
+// A check written for speed alone. It takes the tables of the second implementation, and turns to its code for the ties and for
+// the cards that need it: those with a label, a date, a coordinate, an offence or a misplaced number. Every other card is looked
+// at once, a column after the other, by a table of next states, and each code is found once, by its four digits.
 #define check_header plainly_checked
 #include "../second/header.c"
 #define GRID KEY_OF_GRID
@@ -16,13 +16,18 @@
 
 #include "yardstick.h"
 
+#include <stdio.h>
+
 enum { NO_ROLE = 255, MOST_ROLES = 16, CODES = 10000 };
 
 // States, as places in a row of next states.
 enum state { EMPTY = 0, LACKS = 8, SIGN = 16, FULL = 24, POINT_ONLY = 32, PLACES = 40, ZEROS = 48, UNSURE = 56 };
 
-enum column_role { GAP_ROLE, TEXT_ROLE, NEEDED_TEXT, LINE_ROLE, DECIMAL_ROLE, PLACES_ROLE, NEEDED_0, MORE_0, NEEDED_1, MORE_1, BIT_ROLE,
-            DEGREES, LIMITED, FROM_0_ROLE, FROM_1_ROLE, QUALITY };
+// Roles of columns: none, and the first and the further ones of each kind of field.
+enum column_role {
+    GAP_ROLE, TEXT_ROLE, NEEDED_TEXT, LINE_ROLE, DECIMAL_ROLE, PLACES_ROLE, NEEDED_0, MORE_0,
+    NEEDED_1, MORE_1, BIT_ROLE, DEGREES, LIMITED, FROM_0_ROLE, FROM_1_ROLE, QUALITY
+};
 
 static uint64_t rows[MOST_ROLES][256];        // the next states by role and byte
 static uint8_t roles[LAYOUTS][CARD_SIZE];     // the role of each column
@@ -126,7 +131,9 @@ static unsigned first_role(const struct field *f, unsigned *later)
     *later = LIMITED;
     if (f->needed)
         return NO_ROLE;
-    return f->range == BIT || f->range == UP_TO_11 ? BIT_ROLE : f->range == UP_TO_4 ? QUALITY : f->range == UP_TO_360 ? DEGREES : NO_ROLE;
+    if (f->range == BIT || f->range == UP_TO_11)
+        return BIT_ROLE;
+    return f->range == UP_TO_4 ? QUALITY : f->range == UP_TO_360 ? DEGREES : NO_ROLE;
 }
 
 static void prepare_layout(unsigned k)
@@ -154,15 +161,16 @@ static void prepare(void)
     for (unsigned k = 0; k < LAYOUTS; k++)
         prepare_layout(k);
     for (unsigned n = 0; n < CODES; n++) {
-        uint8_t code[] = {'H', (uint8_t)('0' + n / 1000), (uint8_t)('0' + n / 100 % 10), (uint8_t)('0' + n / 10 % 10), (uint8_t)('0' + n % 10)};
-        codes[n] = (int8_t)code_of(code);
+        char text[CODE_SIZE + 1];
+        snprintf(text, sizeof text, "H%04u", n % CODES);
+        codes[n] = (int8_t)code_of((const uint8_t *)text);
     }
     ready = 1;
 }
 
 static inline int swift_code(const uint8_t *card)
 {
-    unsigned a = (unsigned)(card[1] - '0'), b = (unsigned)(card[2] - '0'), c = (unsigned)(card[3] - '0'), d = (unsigned)(card[4] - '0');
+    unsigned a = digit_at(card, 2), b = digit_at(card, 3), c = digit_at(card, 4), d = digit_at(card, 5);
     if (card[0] == 'H' && a < 10 && b < 10 && c < 10 && d < 10)
         return codes[a * 1000 + b * 100 + c * 10 + d];
     return code_of(card);
