@@ -1,6 +1,6 @@
 // Compares libp294.a with the second implementation on random and damaged cards, headers, diskette files, tapes, volumes,
 // routes between datums and headings, and on headers with bytes changed on one card.
-// Usage: compare SEED CARDS HEADERS TIES FILES TAPES VOLUMES ROUTES HEADINGS CHANGED CHANGED
+// Usage: compare SEED CARDS HEADERS TIES FILES TAPES VOLUMES ROUTES HEADINGS CHANGED
 #include "compare.h"
 
 #include <stdio.h>
