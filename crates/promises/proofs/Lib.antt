@@ -6,4 +6,5 @@ pub mod Media
 pub mod Ebcdic
 pub mod Volumes
 pub mod Routes
+pub mod Heading
 pub mod Promises

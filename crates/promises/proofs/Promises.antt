@@ -1,7 +1,7 @@
 -- What is promised of the product, in the order of its three demands: total, exact, complete. Each promise is a law about what the
 -- functions answer and leave, for every input; the contracts in src/ say that they answer and leave just this. A reader has to
 -- believe the definitions that are named here, each in the specs/ of its crate, and nothing else.
-use Prim.Native.Nat.{ℕ, _+_, _*_, _-_, _/_, _%_, _≤_, _<_, min}
+use Prim.Native.Nat.{ℕ, _+_, _*_, _-_, _/_, _%_, _≤_, _<_, min, max}
 use mathlib.Core.Path.{_≡_, ap}
 use mathlib.Core.Bool.{Bool, true, false}
 use mathlib.Core.Logic.{_↔_}
@@ -58,9 +58,21 @@ use Rattle.crew_answer.specs.lines.Text.{bytes, newline}
 use Rattle.media_diskette.specs.declared.Converted.the-variants as converted
 use Rattle.media_diskette.specs.Lines.{diskOf, cardsFrom, trimmed, Cards, NoBlankEnds}
 use Rattle.media_diskette.specs.Answers.{toAnswer, fromAnswer, outputBy}
+use lib.IntN.{ℤ, pos, natAbs, _+ℤ_, _*ℤ_}
+use mathlib.Core.Logic.{_⊎_}
+use Rattle.base_value.specs.declared.Decimal.{Decimal}
+use Rattle.base_value.specs.Sums.{nothing, exactSum}
+use Rattle.value_text.specs.text.Texts.{textOf}
+use Rattle.survey_compass.specs.declared.Heading.the-variants as heading
+use Rattle.survey_compass.specs.Serials.{cardFor}
+use Rattle.survey_compass.specs.Directions.{markAt, apart, unlisted, leastRank, nearest}
+use Rattle.survey_compass.specs.Corrections.{fixedOn, nearestOn, summedOn, turn, turned}
+use Rattle.survey_compass.specs.Pairs.{Reordered}
+use Rattle.survey_compass.specs.Headings.{headingOn, headingOf}
 use Rattle.promises.specs.Header.{headerRows}
 use Rattle.promises.specs.Media.{toRows, fromRows}
 use Rattle.promises.specs.Ebcdic.{asciiIn, ebcdicIn, translateRows}
+use Rattle.promises.specs.Heading.{headingRows}
 use Rattle.promises.specs.Words.{putAnswer, putCard, textAnswer, textCard, AlikeOutside, listOf, Before, Moved, Skipped, without, newNumber, movedDown}
 use Rattle.promises.proofs.Header as header
 use Rattle.promises.proofs.Cards as cards
@@ -69,6 +81,9 @@ use Rattle.promises.proofs.Taken as taken
 use Rattle.promises.proofs.Media as media
 use Rattle.media_diskette.proofs.Back as diskette
 use Rattle.promises.proofs.Ebcdic as tapes
+use Rattle.promises.proofs.Heading as headings
+use Rattle.survey_compass.proofs.Laws as compass
+use Rattle.survey_compass.proofs.Reordered as pairs
 use Rattle.card_laws.proofs.exactly.Fields as fields
 use Rattle.card_laws.proofs.exactly.Entries as puts
 use Rattle.card_laws.proofs.exactly.Cards as whole-cards
@@ -531,3 +546,42 @@ pub empty-holds : (form : VolumeForm) (buffer : List ℕ) → emptyAnswer buffer
 empty-holds = kept-volumes.empty-volume
 
 -- Routes between datums have a page of their own beside this one: Routes.antt.
+
+-- HEADINGS. A compass reading with its corrections is refused exactly by its table; else it is the exact sum by the only card for the
+-- serial, taken into 0 to under 360 degrees.
+
+pub finding-heading : (h serial : List ℕ) (raw : Decimal) (direction : ℤ)
+    → Exactly (headingRows h serial raw direction)
+    (λ r. headingOf h serial raw direction ≡ heading.Refused r)
+    ((d : Decimal) × (headingOf h serial raw direction ≡ heading.Is d))
+finding-heading = headings.heading-exactly
+
+pub heading-is : (h serial : List ℕ) (raw : Decimal) (direction : ℤ) (d : Decimal) → headingOf h serial raw direction ≡ heading.Is d
+    → d ≡ turned (summedOn (cardFor h (textOf serial)) raw (natAbs direction % 360))
+heading-is = compass.heading-is
+
+-- it lies in 0 to under 360, differs from the sum by a whole number of turns, and has the largest number of places
+pub in-circle : (d : Decimal) → (n : ℕ) × (turned d .units ≡ pos n) × (n < turn (d .places))
+in-circle = compass.in-circle
+
+pub whole-turns : (d : Decimal) → (k : ℤ) × (d .units ≡ turned d .units +ℤ k *ℤ pos (turn (d .places)))
+whole-turns = compass.whole-turns
+
+pub places-kept : (s : List ℕ) (raw : Decimal) (asked : ℕ)
+    → turned (summedOn s raw asked) .places ≡ max (max (raw .places) (fixedOn s .places)) (nearestOn s asked .places)
+places-kept = compass.places-kept
+
+-- an absent correction, which is nothing, adds neither units nor places
+pub nothing-added : (d : Decimal) → exactSum d nothing ≡ d
+nothing-added = compass.nothing-added
+
+-- the nearest direction: no listed one is nearer round the circle, and of those as near none is smaller
+pub nearest-first : (s : List ℕ) (asked : ℕ) → (leastRank s asked ≡ unlisted → ⊥) → (j : ℕ) → j < 8 → (markAt s j ≡ 0 → ⊥)
+    → (apart asked (markAt s (nearest s asked) - 1) < apart asked (markAt s j - 1))
+    ⊎ ((apart asked (markAt s (nearest s asked) - 1) ≡ apart asked (markAt s j - 1))
+    × (markAt s (nearest s asked) - 1 ≤ markAt s j - 1))
+nearest-first = compass.nearest-first
+
+-- and the order of the eight pairs plays no part
+pub pairs-reordered : (s t : List ℕ) → Reordered s t → (raw : Decimal) (direction : ℤ) → headingOn t raw direction ≡ headingOn s raw direction
+pairs-reordered = pairs.same-heading

@@ -3,3 +3,4 @@ pub mod Media
 pub mod Words
 pub mod Ebcdic
 pub mod Volumes
+pub mod Heading
