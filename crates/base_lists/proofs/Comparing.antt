@@ -3,9 +3,12 @@
 use mathlib.Core.Path.{_≡_, refl, sym, _∙_, ap, ap₂}
 use mathlib.Core.Bool.{Bool, true, false, _&&_, false≢true}
 use mathlib.Core.List.{List, [], _∷_}
-use Prim.Native.Nat.{ℕ}
+use Prim.Native.Nat.{ℕ, _+_, _≤_, _<_}
+use native.Mathlib.Numerals.{add-one}
+use lib.ListN.{length, drop, getD, drop-of-length-le}
+use lib.Seq.{drop-cons}
 use lib.Dec.{eqb}
-use borrow.Author.Tests.{eq-eqb, eqb-true}
+use borrow.Author.Tests.{eq-eqb, ne-eqb, eqb-true}
 use Rattle.base_lists.specs.Parts.{alike}
 
 -- a test of two that passes: each does
@@ -39,3 +42,21 @@ unequal-alike s t h = go (alike s t) refl
     go : (b : Bool) → alike s t ≡ b → alike s t ≡ false
     go true e = absurd (h (alike-equal s t e))
     go false e = e
+
+-- two texts compared from the front: of other lengths, one step on, the first that differ, the end
+module _ (s t : List ℕ) where
+  pub alike-lengths : (length s ≡ length t → ⊥) → alike s t ≡ false
+  alike-lengths h = unequal-alike s t (λ e. h (ap length e))
+
+  module _ (i : ℕ) (a : i < length s) (b : i < length t) where
+    pub alike-goes : getD s i 0 ≡ getD t i 0 → alike (drop i s) (drop i t) ≡ alike (drop (i + 1) s) (drop (i + 1) t)
+    unfolding alike
+    alike-goes e = rw (drop-cons s i 0 a, drop-cons t i 0 b, add-one i, eq-eqb (getD s i 0) (getD t i 0) e)
+
+    pub alike-stops : (getD s i 0 ≡ getD t i 0 → ⊥) → alike (drop i s) (drop i t) ≡ false
+    unfolding alike
+    alike-stops e = rw (drop-cons s i 0 a, drop-cons t i 0 b, ne-eqb (getD s i 0) (getD t i 0) e)
+
+  pub alike-ends : (i : ℕ) → length s ≤ i → length t ≤ i → alike (drop i s) (drop i t) ≡ true
+  unfolding alike
+  alike-ends i a b = rw (drop-of-length-le s a, drop-of-length-le t b)

@@ -36,16 +36,16 @@ const WORD: usize = 16;
 
 // The form that an argument names.
 fn form_of(word: &[u8]) -> Form {
-    if words::same(word, b"disk") {
+    if base_lists::same(word, b"disk") {
         return Form::Disk;
     }
-    if words::same(word, b"cards") {
+    if base_lists::same(word, b"cards") {
         return Form::Cards;
     }
-    if words::same(word, b"ascii") {
+    if base_lists::same(word, b"ascii") {
         return Form::Ascii;
     }
-    if words::same(word, b"ebcdic") {
+    if base_lists::same(word, b"ebcdic") {
         return Form::Ebcdic;
     }
     Form::Other

@@ -13,21 +13,6 @@ pub fn say(words: &[u8]) {
     io::write_all(STDERR_FILENO, words);
 }
 
-// Whether two words are the same.
-pub fn same(a: &[u8], b: &[u8]) -> bool {
-    if a.len() != b.len() {
-        return false;
-    }
-    let mut i = 0;
-    while i < a.len() {
-        if a[i] != base_lists::byte_at(b, i) {
-            return false;
-        }
-        i += 1;
-    }
-    true
-}
-
 // Says where it is: a card or a line by its number, and the column.
 fn say_place(what: &[u8], number: usize, column: usize) {
     if number == 0 {

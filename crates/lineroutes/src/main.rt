@@ -13,7 +13,7 @@ use survey_routes::SHIFTS;
 ghost use Prim.Native.Nat.{_<_};
 
 // The longest header, and one card more to notice a longer one.
-const ROOM: usize = 64080;
+const ROOM: usize = 327760;
 
 const PAGE: usize = 4096;
 

@@ -12,7 +12,6 @@ use libc::STDOUT_FILENO;
 use volume_check::Counted;
 use volume_check::Found;
 use volume_edit::Volume;
-use volume_form::reading;
 
 // What can be asked for.
 enum Wanted {
@@ -39,16 +38,16 @@ const WORD: usize = 24;
 
 // What an argument asks for.
 fn wanted_by(word: &[u8]) -> Wanted {
-    if reading::same(word, b"new") {
+    if base_lists::same(word, b"new") {
         return Wanted::New;
     }
-    if reading::same(word, b"list") {
+    if base_lists::same(word, b"list") {
         return Wanted::List;
     }
-    if reading::same(word, b"get") {
+    if base_lists::same(word, b"get") {
         return Wanted::Get;
     }
-    if reading::same(word, b"append") {
+    if base_lists::same(word, b"append") {
         return Wanted::Append;
     }
     Wanted::Other

@@ -1,4 +1,4 @@
--- The steps of counting: cards for a serial, pairs that list a direction; and of comparing two texts.
+-- The steps of counting: cards for a serial, pairs that list a direction.
 use Prim.Native.Nat.{ℕ, suc, _+_, _*_, _-_, _%_, _≤_, _<_}
 use native.Mathlib.Omega.{arith}
 use native.Mathlib.Numerals.{add-one}
@@ -12,7 +12,6 @@ use borrow.Author.Tests.{eq-eqb, ne-eqb}
 use Rattle.base_lists.specs.Count.{bit, count}
 use Rattle.base_lists.specs.Parts.{alike}
 use Rattle.base_lists.proofs.Counting.{count-more}
-use Rattle.base_lists.proofs.Comparing.{unequal-alike}
 use Rattle.value_text.specs.text.Texts.{textOf}
 use Rattle.header_check.specs.forms.Cards.{layoutOf}
 use Rattle.header_check.proofs.forms.Steps.{card-part}
@@ -24,23 +23,6 @@ use Rattle.survey_compass.specs.Directions.{markOf}
 -- one more that is counted, or not
 pub tallied : (p : ℕ → Bool) (i n b : ℕ) (t : Bool) → n ≡ count p i → b ≡ bit t → t ≡ p i → n + b ≡ count p (i + 1)
 tallied p i n b t e q f = ap₂ _+_ e (q ∙ ap bit f) ∙ sym (count-more p i)
-
--- two texts from a byte on
-module _ (a b : List ℕ) (i : ℕ) where
-  pub other-length : (length a ≡ length b → ⊥) → false ≡ alike a b
-  other-length h = sym (unequal-alike a b (λ e. h (ap length e)))
-
-  pub same-goes : i < length a → i < length b → getD a i 0 ≡ getD b i 0 → alike (drop i a) (drop i b) ≡ alike (drop (i + 1) a) (drop (i + 1) b)
-  unfolding alike
-  same-goes h k e = rw (drop-cons a i 0 h, drop-cons b i 0 k, add-one, eq-eqb (getD a i 0) (getD b i 0) e)
-
-  pub same-stops : i < length a → i < length b → (getD a i 0 ≡ getD b i 0 → ⊥) → alike (drop i a) (drop i b) ≡ false
-  unfolding alike
-  same-stops h k e = rw (drop-cons a i 0 h, drop-cons b i 0 k, ne-eqb (getD a i 0) (getD b i 0) e)
-
-  pub same-over : length a ≤ i → length b ≤ i → alike (drop i a) (drop i b) ≡ true
-  unfolding alike
-  same-over h k = rw (drop-of-length-le a h, drop-of-length-le b k)
 
 -- a card is for a serial
 module _ (serial s : List ℕ) (k : ℕ) (is : k ≡ layoutOf s) where

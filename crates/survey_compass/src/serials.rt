@@ -6,7 +6,6 @@ use value_text::text;
 ghost use mathlib.Core.Path.{_≡_};
 ghost use Prim.Native.Nat.{_≤_};
 ghost use lib.ListN.{length};
-ghost use Rattle.base_lists.specs.Parts.{alike};
 ghost use Rattle.header_check.specs.forms.Cards.{cardsIn};
 ghost use Rattle.survey_compass.specs.Serials.{isFor, cardsFor, placeFor};
 
@@ -17,23 +16,6 @@ const FIRST: usize = 7;
 
 const LAST: usize = 14;
 
-// Whether two texts are the same.
-fn same(a: &[u8], b: &[u8]) -> bool
-    ensures { λ r. ⌜ r ≡ alike (now (a .entry)) (now (b .entry)) ⌝ }
-{
-    if a.len() != b.len() {
-        return false;
-    }
-    let mut i = 0;
-    while i < a.len() {
-        if a[i] != b[i] {
-            return false;
-        }
-        i += 1;
-    }
-    true
-}
-
 // Whether a card has the corrections of the compass with a serial.
 fn is_for(serial: &[u8], card: &[u8]) -> bool
     requires { ⌜ length (now card) ≡ 80 ⌝ }
@@ -42,7 +24,7 @@ fn is_for(serial: &[u8], card: &[u8]) -> bool
     if forms::layout_of(card) != CORRECTIONS {
         return false;
     }
-    same(text::stretch(needing::columns(card, FIRST, LAST)), serial)
+    base_lists::same(text::stretch(needing::columns(card, FIRST, LAST)), serial)
 }
 
 // How many cards have them.

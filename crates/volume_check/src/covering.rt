@@ -24,7 +24,7 @@ fn count_of(form: Form, at: u64, rest: &[u8], card: &[u8]) -> u64
         return 0;
     }
     let expected = building::entry_card(form, rest, at, n);
-    if reading::same(card, &expected) {
+    if base_lists::same(card, &expected) {
         return n;
     }
     0

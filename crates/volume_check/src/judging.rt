@@ -79,7 +79,7 @@ fn is_trailer(form: Form, cards: u64, card: &[u8]) -> bool
         return false;
     }
     let expected = building::trailer_card(form, first, cards - first);
-    reading::same(card, &expected)
+    base_lists::same(card, &expected)
 }
 
 // The last card.

@@ -1,11 +1,10 @@
-// What stands on a card, whatever stands there: numbers read leniently, and cards compared byte by byte.
+// What stands on a card, whatever stands there: numbers read leniently.
 use crate::FIRST;
 use crate::Form;
 use crate::NUMBERS;
 ghost use mathlib.Core.Path.{_≡_};
 ghost use Prim.Native.Nat.{_+_, _-_, _≤_};
 ghost use lib.ListN.{length, take, drop};
-ghost use Rattle.base_lists.specs.Parts.{alike};
 ghost use Rattle.volume_form.specs.Spelled.{standing};
 ghost use Rattle.volume_form.specs.Rows.{rowOf};
 ghost use Rattle.volume_form.specs.Marked.{countOn, startOn, firstOn};
@@ -67,21 +66,4 @@ pub fn first_on(form: Form, card: &[u8]) -> u64
     ensures { λ r. ⌜ r ≡ firstOn (rowOf form) (now (card .entry)) ⌝ }
 {
     number_on(form, card, FIRST)
-}
-
-// Whether two texts are the same.
-pub fn same(s: &[u8], t: &[u8]) -> bool
-    ensures { λ r. ⌜ r ≡ alike (now (s .entry)) (now (t .entry)) ⌝ }
-{
-    if s.len() != t.len() {
-        return false;
-    }
-    let mut i = 0;
-    while i < s.len() {
-        if s[i] != t[i] {
-            return false;
-        }
-        i += 1;
-    }
-    true
 }

@@ -1,4 +1,4 @@
--- What the walks over columns and two texts know.
+-- What the walks over columns know.
 use Prim.Native.Nat.{ℕ, suc, _+_, _-_, _*_, _^_, _≤_, _<_}
 use native.Mathlib.Nat.{pow-succ', pow-le-pow-right, mul-comm}
 use native.Mathlib.Numerals.{add-one}
@@ -10,8 +10,6 @@ use lib.ListN.{length, take, drop, getD, drop-of-length-le}
 use lib.Seq.{drop-cons}
 use borrow.Author.Tests.{eq-eqb, ne-eqb}
 use Rattle.base_digits.specs.digits.Figures.{valueFrom}
-use Rattle.base_lists.specs.Parts.{alike}
-use Rattle.base_lists.proofs.Comparing.{unequal-alike}
 use Rattle.volume_form.specs.Spelled.{standing}
 use Rattle.volume_form.specs.Rows.{Row}
 use Rattle.volume_form.specs.Marked.{countOn}
@@ -31,23 +29,6 @@ value-bound n i h l = let p : 10 ^ i ≤ 10 ^ 9 = pow-le-pow-right (omega arith)
 
 pub value-more : (n i d : ℕ) → d ≤ 207 → n + 23 ≤ 23 * 10 ^ i → 10 * n + d + 23 ≤ 23 * 10 ^ (i + 1)
 value-more n i d h l = let p : 10 ^ (i + 1) ≡ 10 * 10 ^ i = ap (λ k. 10 ^ k) (add-one i) ∙ pow-succ' 10 i in omega arith
-
-module _ (s t : List ℕ) where
-  pub alike-lengths : (length s ≡ length t → ⊥) → alike s t ≡ false
-  alike-lengths h = unequal-alike s t (λ e. h (ap length e))
-
-  module _ (i : ℕ) (a : i < length s) (b : i < length t) where
-    pub alike-goes : getD s i 0 ≡ getD t i 0 → alike (drop i s) (drop i t) ≡ alike (drop (i + 1) s) (drop (i + 1) t)
-    unfolding alike
-    alike-goes e = rw (drop-cons s i 0 a, drop-cons t i 0 b, add-one i, eq-eqb (getD s i 0) (getD t i 0) e)
-
-    pub alike-stops : (getD s i 0 ≡ getD t i 0 → ⊥) → alike (drop i s) (drop i t) ≡ false
-    unfolding alike
-    alike-stops e = rw (drop-cons s i 0 a, drop-cons t i 0 b, ne-eqb (getD s i 0) (getD t i 0) e)
-
-  pub alike-ends : (i : ℕ) → length s ≤ i → length t ≤ i → alike (drop i s) (drop i t) ≡ true
-  unfolding alike
-  alike-ends i a b = rw (drop-of-length-le s a, drop-of-length-le t b)
 
 -- the number on a card, as a part of it is lent
 pub number-part : (s : List ℕ) (v w from n : ℕ) → w ≡ v → n ≡ standing (take (from + w - from) (drop from s))
