@@ -50,6 +50,9 @@ pub const NO_DIRECTORY: usize = 19;
 
 pub const NO_CARDS_LEFT: usize = 20;
 
+// Of a wide volume: the old form cannot hold it.
+pub const NOT_OLD: usize = 21;
+
 // Of the datums of a header: one is defined more than once.
 pub const DATUM_TWICE: usize = 22;
 

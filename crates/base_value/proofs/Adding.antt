@@ -1,7 +1,7 @@
 -- Sums of units that the machine's 64-bit integers hold, and units with more places.
 use Prim.Native.Nat.{ℕ, zero, suc, _+_, _*_, _-_, _^_, _≤_, _<_, min}
 use native.Mathlib.Omega.{arith}
-use native.Mathlib.Nat.{pow-suc, mul-assoc, mul-comm}
+use native.Mathlib.Nat.{pow-suc, pow-le-pow-right, mul-assoc, mul-comm, mul-le-mul-right, zero-mul}
 use native.Mathlib.Numerals.{add-one}
 use mathlib.Core.Path.{_≡_, refl, sym, ap, ap₂, subst, _∙_}
 use mathlib.Core.Bool.{Bool, true, false, cond}
@@ -41,6 +41,18 @@ module _ (a b : ℤ) (fa : SFits w64 a) (fb : SFits w64 b) where
   pub sum-is : natAbs a ≤ largest → natAbs b ≤ largest
       → toZ w64 (ofZ w64 (toZ w64 (ofZ w64 a) +ℤ toZ w64 (ofZ w64 b))) ≡ a +ℤ b
   sum-is h k = toZ-ofZ w64 (toZ w64 (ofZ w64 a) +ℤ toZ w64 (ofZ w64 b)) (sum-held h k) ∙ same
+
+-- no size grows by places, and any other over the largest by many
+pub no-size : (n k : ℕ) → n ≡ 0 → 0 ≡ min largest (n * 10 ^ k)
+no-size n k e =
+    let z : n * 10 ^ k ≡ 0 = ap (λ m. m * 10 ^ k) e ∙ zero-mul (10 ^ k) in
+    omega (arith, z)
+
+pub many-more : (n k : ℕ) → 1 ≤ n → 18 ≤ k → largest ≡ min largest (n * 10 ^ k)
+many-more n k h l =
+    let p : 10 ^ 18 ≤ 10 ^ k = pow-le-pow-right (omega arith) l in
+    let q : 1 * 10 ^ k ≤ n * 10 ^ k = mul-le-mul-right (10 ^ k) h in
+    omega (arith, p, q)
 
 -- a size with no more places, and with one more
 pub no-more : (n : ℕ) → min largest n ≡ min largest (n * 10 ^ 0)

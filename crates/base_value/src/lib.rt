@@ -64,10 +64,19 @@ fn at_most(size: u64) -> u64
     Decimal::LARGEST
 }
 
+// So many places more make any size but 0 larger than the largest.
+const MANY: usize = 18;
+
 // A size with more places, or the largest.
 fn grown(size: u64, more: usize) -> u64
     ensures { λ r. ⌜ r ≡ min largest (size * 10 ^ more) ⌝ }
 {
+    if size == 0 {
+        return 0;
+    }
+    if MANY <= more {
+        return Decimal::LARGEST;
+    }
     let mut grown = at_most(size);
     let mut i = 0;
     while i < more {

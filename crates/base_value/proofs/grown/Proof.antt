@@ -4,7 +4,7 @@ use mathlib.Core.Path.{_≡_, _∙_}
 use native.Mathlib.Omega.{arith}
 use borrow.Author.Needs.{needs}
 use Rattle.base_value.specs.Sums.{largest}
-use Rattle.base_value.proofs.Adding.{no-more, one-more, all-more}
+use Rattle.base_value.proofs.Adding.{no-size, many-more, no-more, one-more, all-more}
 use Rattle.base_value.proofs.grown.Statement.{statement}
 use Rattle.base_value.proofs.grown.Tie as tie
 
@@ -13,6 +13,12 @@ Inv-loop size more grown₀ i₀ grown i = (i ≤ more) × (grown ≡ min larges
 
 abbrev μ-loop : tie.MeasureT-loop
 μ-loop size more grown₀ i₀ grown i = more - i
+
+returns : tie.Need-returns Inv-loop μ-loop
+returns c = no-size _ _ (c .if1 .taken)
+
+returns-2 : tie.Need-returns-2 Inv-loop μ-loop
+returns-2 c = many-more _ _ (omega arith) (c .if2 .taken)
 
 at-most-requires : tie.Need-at-most-requires Inv-loop μ-loop
 at-most-requires c κs = search needs
@@ -35,14 +41,26 @@ loop-less c = search needs
 loop-again : tie.Need-loop-again Inv-loop μ-loop
 loop-again c =
     let l = c .before .before .loop in
-    (omega arith, one-more (c .before .before .before .before .args .size) (l .i) _ (l .inv .1) _ (c .at-most2 .ensures))
+    (omega arith, one-more (c .before .before .before .before .before .before .args .size) (l .i) _ (l .inv .1) _ (c .at-most2 .ensures))
 
-returns : tie.Need-returns Inv-loop μ-loop
-returns c =
+returns-3 : tie.Need-returns-3 Inv-loop μ-loop
+returns-3 c =
     let l = c .before .loop in
-    all-more (c .before .before .before .args .size) _ (l .i) _ (l .inv .1) (omega (arith, l .inv .0))
+    all-more (c .before .before .before .before .before .args .size) _ (l .i) _ (l .inv .1) (omega (arith, l .inv .0))
 
 pub grown-spec : {M : Type 1} → statement M
 grown-spec =
     tie.close
-    (tie.spec Inv-loop μ-loop at-most-requires loop-holds mul-at-most at-most-requires-2 add-i loop-less loop-again returns)
+    (tie.spec
+    Inv-loop
+    μ-loop
+    returns
+    returns-2
+    at-most-requires
+    loop-holds
+    mul-at-most
+    at-most-requires-2
+    add-i
+    loop-less
+    loop-again
+    returns-3)
