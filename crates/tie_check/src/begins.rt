@@ -156,13 +156,17 @@ fn some_left(card: &[u8], layout: usize) -> bool
     }
 }
 
-// Whether a card has a misplaced number at all: none that the screen is sure of has.
+// Whether a card has a misplaced number at all: none that the screen is sure of has. Of H22@0 it is mostly not sure where a last
+// column is blank, since then the second set is mostly absent.
 pub fn any_left(card: &[u8], layout: usize) -> bool
     requires { ⌜ length (now card) ≡ 80 ⌝ }
     ensures { λ r. ⌜ r ≡ anyLeft (now (card .entry)) (fieldsOf layout) ⌝ }
 {
     if !may_be_left(card, layout) {
         return false;
+    }
+    if layout == NODE {
+        return some_left(card, layout);
     }
     if card_screen::is_fine(card, layout) {
         return false;
