@@ -21,11 +21,12 @@ ghost use Rattle.tie_rules.specs.Faults.{faults, entries};
 ghost use Rattle.tie_check.specs.Answer.{answerFor, listFor};
 ghost use Rattle.tie_lookup.specs.questions.Questions.{keyAnswer};
 ghost use Rattle.media_ebcdic.specs.Translating.{asciiFrom, ebcdicFrom, translatedFor};
-ghost use Rattle.volume_form.specs.declared.Form.the-variants.{Old};
+ghost use Rattle.volume_form.specs.declared.Form.the-variants.{Old, Wide};
 ghost use Rattle.volume_form.specs.Rows.{rowOf};
 ghost use Rattle.volume_rules.specs.Sound.{headersOf};
+ghost use Rattle.volume_rules.specs.Judged.{formIn};
 ghost use Rattle.volume_check.specs.Answers.{linesOf, foundOf};
-ghost use Rattle.volume_edit.specs.Written.{emptyAnswer, appendAnswer, leftBy as volumeLeft};
+ghost use Rattle.volume_edit.specs.Written.{emptyAnswer, appendAnswer, leftBy as volumeLeft, convertAnswer, compactAnswer, compactedBy};
 ghost use Rattle.survey_datums.specs.Answer.{routesOf};
 ghost use Rattle.survey_datums.specs.Listing.{listedOf, listFor as routesIn};
 ghost use Rattle.base_value.specs.Sums.{decimal};
@@ -250,9 +251,9 @@ pub extern "C" fn p294_volume_empty(buffer: &mut [u8], numbers: &mut [i64]) -> i
 // How many lines a volume has.
 #[no_mangle]
 pub extern "C" fn p294_volume_lines(volume: &[u8], cards: usize, numbers: &mut [i64]) -> i64
-    ensures said { λ r. ⌜ r ≡ linesReply (linesOf (rowOf Old) cards (now (volume .entry))) .said ⌝ }
+    ensures said { λ r. ⌜ r ≡ linesReply (linesOf (rowOf (formIn cards (now (volume .entry)))) cards (now (volume .entry))) .said ⌝ }
     ensures numbers { λ _. ⌜ now (numbers .exit)
-        ≡ given (now (numbers .entry)) (linesReply (linesOf (rowOf Old) cards (now (volume .entry)))) ⌝ }
+        ≡ given (now (numbers .entry)) (linesReply (linesOf (rowOf (formIn cards (now (volume .entry)))) cards (now (volume .entry)))) ⌝ }
 {
     give(
         numbers,
@@ -268,9 +269,9 @@ pub extern "C" fn p294_volume_line(
     place: usize,
     numbers: &mut [i64],
 ) -> i64
-    ensures said { λ r. ⌜ r ≡ lineReply (foundOf (rowOf Old) cards (now (volume .entry)) place) .said ⌝ }
+    ensures said { λ r. ⌜ r ≡ lineReply (foundOf (rowOf (formIn cards (now (volume .entry)))) cards (now (volume .entry)) place) .said ⌝ }
     ensures numbers { λ _. ⌜ now (numbers .exit)
-        ≡ given (now (numbers .entry)) (lineReply (foundOf (rowOf Old) cards (now (volume .entry)) place)) ⌝ }
+        ≡ given (now (numbers .entry)) (lineReply (foundOf (rowOf (formIn cards (now (volume .entry)))) cards (now (volume .entry)) place)) ⌝ }
 {
     give(
         numbers,
@@ -286,12 +287,12 @@ pub extern "C" fn p294_volume_append(
     header: &[u8],
     numbers: &mut [i64],
 ) -> i64
-    ensures said { λ r. ⌜ r ≡ volumeReply (appendAnswer (rowOf Old) cards (now (buffer .entry)) (now (header .entry))) .said ⌝ }
+    ensures said { λ r. ⌜ r ≡ volumeReply (appendAnswer (rowOf (formIn cards (now (buffer .entry)))) cards (now (buffer .entry)) (now (header .entry))) .said ⌝ }
     ensures numbers { λ _. ⌜ now (numbers .exit)
-        ≡ given (now (numbers .entry)) (volumeReply (appendAnswer (rowOf Old) cards (now (buffer .entry)) (now (header .entry)))) ⌝ }
+        ≡ given (now (numbers .entry)) (volumeReply (appendAnswer (rowOf (formIn cards (now (buffer .entry)))) cards (now (buffer .entry)) (now (header .entry)))) ⌝ }
     ensures buffer { λ _. ⌜ now (buffer .exit)
-        ≡ volumeLeft (rowOf Old) (appendAnswer (rowOf Old) cards (now (buffer .entry)) (now (header .entry)))
-        (headersOf (rowOf Old) cards (take (80 * cards) (now (buffer .entry))) ++ (now (header .entry) ∷ [])) (now (buffer .entry)) ⌝ }
+        ≡ volumeLeft (rowOf (formIn cards (now (buffer .entry)))) (appendAnswer (rowOf (formIn cards (now (buffer .entry)))) cards (now (buffer .entry)) (now (header .entry)))
+        (headersOf (rowOf (formIn cards (now (buffer .entry)))) cards (take (80 * cards) (now (buffer .entry))) ++ (now (header .entry) ∷ [])) (now (buffer .entry)) ⌝ }
 {
     let reply = answers::of_volume(volume_edit::append(buffer, cards, header));
     give(numbers, reply)
@@ -331,4 +332,43 @@ pub extern "C" fn p294_heading(
         direction,
     );
     give(numbers, answers::of_heading(heading))
+}
+
+// A volume brought into the wide form.
+#[no_mangle]
+pub extern "C" fn p294_volume_widen(buffer: &mut [u8], cards: usize, numbers: &mut [i64]) -> i64
+    ensures said { λ r. ⌜ r ≡ volumeReply (convertAnswer (rowOf (formIn cards (now (buffer .entry)))) (rowOf Wide) cards (now (buffer .entry))) .said ⌝ }
+    ensures numbers { λ _. ⌜ now (numbers .exit) ≡ given (now (numbers .entry)) (volumeReply (convertAnswer (rowOf (formIn cards (now (buffer .entry)))) (rowOf Wide) cards (now (buffer .entry)))) ⌝ }
+    ensures buffer { λ _. ⌜ now (buffer .exit)
+        ≡ volumeLeft (rowOf Wide) (convertAnswer (rowOf (formIn cards (now (buffer .entry)))) (rowOf Wide) cards (now (buffer .entry)))
+        (headersOf (rowOf (formIn cards (now (buffer .entry)))) cards (take (80 * cards) (now (buffer .entry)))) (now (buffer .entry)) ⌝ }
+{
+    let reply = answers::of_volume(volume_edit::convert::widen(buffer, cards));
+    give(numbers, reply)
+}
+
+// A volume brought into the old form.
+#[no_mangle]
+pub extern "C" fn p294_volume_narrow(buffer: &mut [u8], cards: usize, numbers: &mut [i64]) -> i64
+    ensures said { λ r. ⌜ r ≡ volumeReply (convertAnswer (rowOf (formIn cards (now (buffer .entry)))) (rowOf Old) cards (now (buffer .entry))) .said ⌝ }
+    ensures numbers { λ _. ⌜ now (numbers .exit) ≡ given (now (numbers .entry)) (volumeReply (convertAnswer (rowOf (formIn cards (now (buffer .entry)))) (rowOf Old) cards (now (buffer .entry)))) ⌝ }
+    ensures buffer { λ _. ⌜ now (buffer .exit)
+        ≡ volumeLeft (rowOf Old) (convertAnswer (rowOf (formIn cards (now (buffer .entry)))) (rowOf Old) cards (now (buffer .entry)))
+        (headersOf (rowOf (formIn cards (now (buffer .entry)))) cards (take (80 * cards) (now (buffer .entry)))) (now (buffer .entry)) ⌝ }
+{
+    let reply = answers::of_volume(volume_edit::convert::narrow(buffer, cards));
+    give(numbers, reply)
+}
+
+// A volume without the lines that are superseded.
+#[no_mangle]
+pub extern "C" fn p294_volume_compact(buffer: &mut [u8], cards: usize, numbers: &mut [i64]) -> i64
+    ensures said { λ r. ⌜ r ≡ volumeReply (compactAnswer (rowOf (formIn cards (now (buffer .entry)))) cards (now (buffer .entry))) .said ⌝ }
+    ensures numbers { λ _. ⌜ now (numbers .exit) ≡ given (now (numbers .entry)) (volumeReply (compactAnswer (rowOf (formIn cards (now (buffer .entry)))) cards (now (buffer .entry)))) ⌝ }
+    ensures buffer { λ _. ⌜ now (buffer .exit)
+        ≡ compactedBy (rowOf (formIn cards (now (buffer .entry)))) (compactAnswer (rowOf (formIn cards (now (buffer .entry)))) cards (now (buffer .entry)))
+        (headersOf (rowOf (formIn cards (now (buffer .entry)))) cards (take (80 * cards) (now (buffer .entry)))) (now (buffer .entry)) ⌝ }
+{
+    let reply = answers::of_volume(volume_edit::compact::compact(buffer, cards));
+    give(numbers, reply)
 }

@@ -8,3 +8,4 @@ pub mod Volumes
 pub mod Routes
 pub mod Heading
 pub mod Promises
+pub mod Forms

@@ -100,7 +100,13 @@ use Rattle.volume_form.specs.Rows.{rowOf}
 use Rattle.volume_form.proofs.Cards.{good-row}
 use Rattle.volume_rules.specs.Sound.{headersOf}
 use Rattle.volume_rules.specs.Volume.{volumeOf}
-use Rattle.volume_rules.specs.Judged.{volumeAnswer, Holds}
+use Rattle.volume_form.specs.declared.Form.the-variants as volume-form
+use Rattle.volume_rules.specs.Judged.{volumeAnswer, Holds, formIn}
+use Rattle.volume_rules.specs.Converted.{holds}
+use Rattle.volume_rules.specs.Latest.{latest}
+use Rattle.volume_rules.specs.SameLine.{sameLine}
+use Rattle.volume_rules.proofs.Latest.{latest-twice}
+use Rattle.promises.proofs.Forms as forms
 use Rattle.volume_rules.proofs.Judging as volumes-judged
 use Rattle.volume_check.specs.declared.Counted.the-variants as counted
 use Rattle.volume_check.specs.declared.Found.the-variants as found-line
@@ -585,3 +591,18 @@ nearest-first = compass.nearest-first
 -- and the order of the eight pairs plays no part
 pub pairs-reordered : (s t : List ℕ) → Reordered s t → (raw : Decimal) (direction : ℤ) → headingOn t raw direction ≡ headingOn s raw direction
 pairs-reordered = pairs.same-heading
+
+-- The code of its last card tells a volume's form, and the wide form holds every old volume. Compacting keeps a line exactly if no
+-- later one is the same, and compacting twice is compacting once.
+
+pub form-told : (form : VolumeForm) (n : ℕ) (buffer : List ℕ) (hs : List (List ℕ)) → Holds (rowOf form) n buffer hs → formIn n buffer ≡ form
+form-told = forms.form-told
+
+pub old-held : (n : ℕ) (buffer : List ℕ) (hs : List (List ℕ)) → Holds (rowOf volume-form.Old) n buffer hs → holds (rowOf volume-form.Wide) n hs ≡ true
+old-held = forms.old-held
+
+pub kept-from : (gs : List (List ℕ)) (h : List ℕ) (hs : List (List ℕ)) → forms.KeptFrom sameLine (latest sameLine (gs ++ (h ∷ hs))) h hs
+kept-from = forms.kept-from sameLine
+
+pub kept-once : (hs : List (List ℕ)) → latest sameLine (latest sameLine hs) ≡ latest sameLine hs
+kept-once = latest-twice sameLine

@@ -27,7 +27,7 @@ use Rattle.header_check.specs.Refusing.{refusalOf}
 use Rattle.volume_form.specs.Rows.{Row as Form}
 use Rattle.volume_form.specs.Spelled.{spelled}
 use Rattle.volume_rules.specs.Volume.{before}
-use Rattle.volume_rules.specs.Sound.{points, covers, lastCard, firstOf, bodyOf, directoryOf, headersOf}
+use Rattle.volume_rules.specs.Sound.{points, mixed, covers, lastCard, firstOf, bodyOf, directoryOf, headersOf}
 use Rattle.volume_rules.specs.Judged.{unless, andThen, stated, headerAnswer, headersAnswer, partsAnswer, cardsAnswer, volumeAnswer}
 use Rattle.volume_check.specs.declared.Counted.{Counted}
 use Rattle.volume_check.specs.declared.Counted.the-variants as counted
@@ -65,6 +65,12 @@ unfolding given
 unless-given true k next rows e = e
 unless-given false k next rows e = refl
 
+where-given : (t : Bool) (k : ℕ) (next : Checked) (rows : List Row) → given rows ≡ inCheck next
+    → given (row k 0 0 t ∷ rows) ≡ inCheck (unless (not t) k next)
+unfolding given
+where-given true k next rows e = refl
+where-given false k next rows e = e
+
 module _ (f : Form) where
   header-rows : (h : List ℕ) → given (rowsIn f h) ≡ inCheck (headerAnswer f h)
   unfolding rowsIn headerAnswer given
@@ -85,7 +91,8 @@ module _ (f : Form) where
     unfolding cardsRows cardsAnswer partsAnswer
     cards-rows v =
         unless-given (points f n (lastCard n v)) 18 _ _
-        (unless-given (covers f 1 (bodyOf f n v) (directoryOf f n v) (n - firstOf f n v)) 19 _ _ (headers-rows (headersOf f n v)))
+        (where-given (mixed (f .other) (directoryOf f n v) (n - firstOf f n v)) 18 _ _
+        (unless-given (covers f 1 (bodyOf f n v) (directoryOf f n v) (n - firstOf f n v)) 19 _ _ (headers-rows (headersOf f n v))))
 
     -- the three tests of a stated number, each with its row
     stated-rows : (k room : ℕ) (next : Checked) (rows : List Row) → given rows ≡ inCheck next

@@ -7,7 +7,7 @@ use lib.ListN.{length, take}
 use Rattle.card_laws.specs.exactly.Rows.{Row, row}
 use Rattle.header_check.specs.forms.Cards.{cardsIn}
 use Rattle.volume_form.specs.Rows.{Row as Form}
-use Rattle.volume_rules.specs.Sound.{points, covers, lastCard, firstOf, bodyOf, directoryOf, headersOf}
+use Rattle.volume_rules.specs.Sound.{points, mixed, covers, lastCard, firstOf, bodyOf, directoryOf, headersOf}
 use Rattle.promises.specs.Header.{headerRows}
 
 -- a header in a volume of a form: more cards than the form allows, then the header's own
@@ -23,6 +23,7 @@ rowsOfAll f (h ∷ hs) = rowsIn f h ++ rowsOfAll f hs
 unfoldable pub cardsRows : Form → ℕ → List ℕ → List Row
 cardsRows f n v =
     row 18 0 0 (not (points f n (lastCard n v))) ∷
+    row 18 0 0 (mixed (f .other) (directoryOf f n v) (n - firstOf f n v)) ∷
     row 19 0 0 (not (covers f 1 (bodyOf f n v) (directoryOf f n v) (n - firstOf f n v))) ∷
     rowsOfAll f (headersOf f n v)
 

@@ -1,5 +1,6 @@
 // Whether a directory covers some cards, card by card: each directory card is compared with the one that would be written.
 use format_layout::CARD;
+use format_layout::CODE;
 use volume_form::Form;
 use volume_form::building;
 use volume_form::reading;
@@ -7,7 +8,7 @@ ghost use mathlib.Core.Path.{_≡_};
 ghost use Prim.Native.Nat.{_+_, _/_, _<_, _^_};
 ghost use lib.ListN.{length};
 ghost use Rattle.volume_form.specs.Rows.{rowOf};
-ghost use Rattle.volume_rules.specs.Sound.{covers};
+ghost use Rattle.volume_rules.specs.Sound.{mixed, covers};
 ghost use Rattle.volume_check.specs.Steps.{entered};
 
 // How many cards a directory card tells, where it is that of the header that begins the rest; else 0.
@@ -54,4 +55,21 @@ pub fn covered_by(form: Form, body: &[u8], directory: &[u8]) -> bool
         i += 1;
     }
     body.len() == CARD * at
+}
+
+// Whether a directory has a card of the other form.
+pub fn is_mixed(form: Form, directory: &[u8]) -> bool
+    ensures { λ r. ⌜ r ≡ mixed (rowOf form .other) (now (directory .entry)) (length (now (directory .entry)) / 80) ⌝ }
+{
+    let other = volume_form::other_code(form);
+    let count = directory.len() / CARD;
+    let mut i = 0;
+    while i < count {
+        let from = CARD * i;
+        if base_lists::same(&directory[from..from + CODE], &other) {
+            return true;
+        }
+        i += 1;
+    }
+    false
 }

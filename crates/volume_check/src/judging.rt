@@ -5,17 +5,18 @@ use base_refusal::NO_TRAILER;
 use base_refusal::TOO_MANY;
 use base_refusal::refuse;
 use format_layout::CARD;
+use format_layout::CODE;
 use header_check::Checked;
 use volume_form::Form;
 use volume_form::building;
 use volume_form::reading;
 ghost use mathlib.Core.Path.{_≡_};
-ghost use mathlib.Core.Bool.{true};
+ghost use mathlib.Core.Bool.{true, not};
 ghost use Prim.Native.Nat.{_+_, _-_, _*_, _/_, _≤_, _<_, _^_};
 ghost use lib.ListN.{length};
 ghost use Rattle.volume_form.specs.Rows.{rowOf};
-ghost use Rattle.volume_rules.specs.Sound.{points, covers, headersIn, lastCard, firstOf, bodyOf, directoryOf};
-ghost use Rattle.volume_rules.specs.Judged.{unless, stated, headerAnswer, headersAnswer, cardsAnswer, volumeAnswer};
+ghost use Rattle.volume_rules.specs.Sound.{points, mixed, covers, headersIn, lastCard, firstOf, bodyOf, directoryOf};
+ghost use Rattle.volume_rules.specs.Judged.{unless, stated, headerAnswer, headersAnswer, cardsAnswer, volumeAnswer, formIn};
 ghost use Rattle.volume_check.specs.Steps.{Cards, Trailed};
 
 // The answer to a header in a volume.
@@ -53,13 +54,17 @@ fn check_headers(form: Form, body: &[u8], directory: &[u8]) -> Checked
     Checked::Accepted
 }
 
-// The directory and the headers.
+// The directory and the headers; a card of the other form comes before all else.
 fn judge_parts(form: Form, body: &[u8], directory: &[u8]) -> Checked
     requires { ⌜ 1 + length (now body) / 80 < 10 ^ rowOf form .width ⌝ }
     ensures { λ r. ⌜ r
-        ≡ unless (covers (rowOf form) 1 (now (body .entry)) (now (directory .entry)) (length (now (directory .entry)) / 80)) 19
-        (headersAnswer (rowOf form) (headersIn (rowOf form) (now (body .entry)) (now (directory .entry)) (length (now (directory .entry)) / 80))) ⌝ }
+        ≡ unless (not (mixed (rowOf form .other) (now (directory .entry)) (length (now (directory .entry)) / 80))) 18
+        (unless (covers (rowOf form) 1 (now (body .entry)) (now (directory .entry)) (length (now (directory .entry)) / 80)) 19
+        (headersAnswer (rowOf form) (headersIn (rowOf form) (now (body .entry)) (now (directory .entry)) (length (now (directory .entry)) / 80)))) ⌝ }
 {
+    if covering::is_mixed(form, directory) {
+        return Checked::Refused(refuse(NO_TRAILER, 0, 0));
+    }
     if covering::covered_by(form, body, directory) {
         return check_headers(form, body, directory);
     }
@@ -157,4 +162,22 @@ pub fn judge(form: Form, buffer: &[u8], cards: usize) -> Checked
         return judge_cards(form, &buffer[..CARD * cards], cards);
     }
     Checked::Refused(refuse(NO_TRAILER, 0, 0))
+}
+
+// The form that the code of the last card tells; what has no such card is judged as an old volume.
+pub fn form_of(buffer: &[u8], cards: usize) -> Form
+    ensures { λ r. ⌜ r ≡ formIn cards (now (buffer .entry)) ⌝ }
+{
+    if cards == 0 {
+        return Form::Old;
+    }
+    if buffer.len() / CARD < cards {
+        return Form::Old;
+    }
+    let code = volume_form::trailer_code(Form::Wide);
+    let from = CARD * (cards - 1);
+    if base_lists::same(&buffer[from..from + CODE], &code) {
+        return Form::Wide;
+    }
+    Form::Old
 }

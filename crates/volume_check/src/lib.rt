@@ -21,7 +21,7 @@ ghost use Rattle.header_check.specs.declared.Checked.the-variants.{Accepted};
 ghost use Rattle.volume_form.specs.Rows.{rowOf};
 ghost use Rattle.volume_form.specs.Marked.{nameOf, sequenceOf};
 ghost use Rattle.volume_rules.specs.Sound.{firstOf, headersOf};
-ghost use Rattle.volume_rules.specs.Judged.{volumeAnswer};
+ghost use Rattle.volume_rules.specs.Judged.{volumeAnswer, formIn};
 ghost use Rattle.volume_check.specs.Answers.{placed, linesOf, foundOf, partOf, lineOf};
 ghost use Rattle.volume_check.specs.Steps.{toldAt, inside};
 
@@ -47,11 +47,12 @@ fn count_in(form: Form, volume: &[u8], cards: usize) -> usize
 
 // How many lines a volume has.
 pub fn lines(volume: &[u8], cards: usize) -> Counted
-    ensures { λ r. ⌜ r ≡ linesOf (rowOf Form.Old) cards (now (volume .entry)) ⌝ }
+    ensures { λ r. ⌜ r ≡ linesOf (rowOf (formIn cards (now (volume .entry)))) cards (now (volume .entry)) ⌝ }
 {
-    let checked = judging::judge(Form::Old, volume, cards);
+    let form = judging::form_of(volume, cards);
+    let checked = judging::judge(form, volume, cards);
     match checked {
-        Checked::Accepted => Counted::Lines(count_in(Form::Old, volume, cards)),
+        Checked::Accepted => Counted::Lines(count_in(form, volume, cards)),
         Checked::Refused(r) => Counted::Refused(r),
     }
 }
@@ -92,11 +93,12 @@ fn line_in(form: Form, volume: &[u8], cards: usize, place: usize) -> Found
 
 // Where the line at a place stands, counted from 1.
 pub fn find_line(volume: &[u8], cards: usize, place: usize) -> Found
-    ensures { λ r. ⌜ r ≡ foundOf (rowOf Form.Old) cards (now (volume .entry)) place ⌝ }
+    ensures { λ r. ⌜ r ≡ foundOf (rowOf (formIn cards (now (volume .entry)))) cards (now (volume .entry)) place ⌝ }
 {
-    let checked = judging::judge(Form::Old, volume, cards);
+    let form = judging::form_of(volume, cards);
+    let checked = judging::judge(form, volume, cards);
     match checked {
-        Checked::Accepted => line_in(Form::Old, volume, cards, place),
+        Checked::Accepted => line_in(form, volume, cards, place),
         Checked::Refused(r) => Found::Refused(r),
     }
 }
@@ -124,7 +126,7 @@ fn part_of<'a>(volume: &'a [u8], found: Found) -> &'a [u8]
 
 // The line at a place, as a part of the volume; empty on a refusal.
 pub fn line<'a>(volume: &'a [u8], cards: usize, place: usize) -> &'a [u8]
-    ensures { λ r. ⌜ now r ≡ lineOf (rowOf Form.Old) cards (now (volume .entry)) place ⌝ }
+    ensures { λ r. ⌜ now r ≡ lineOf (rowOf (formIn cards (now (volume .entry)))) cards (now (volume .entry)) place ⌝ }
 {
     let found = find_line(volume, cards, place);
     part_of(volume, found)
@@ -132,7 +134,7 @@ pub fn line<'a>(volume: &'a [u8], cards: usize, place: usize) -> &'a [u8]
 
 // The name of the line at a place, as a part of the volume; empty on a refusal.
 pub fn name<'a>(volume: &'a [u8], cards: usize, place: usize) -> &'a [u8]
-    ensures { λ r. ⌜ now r ≡ nameOf (lineOf (rowOf Form.Old) cards (now (volume .entry)) place) ⌝ }
+    ensures { λ r. ⌜ now r ≡ nameOf (lineOf (rowOf (formIn cards (now (volume .entry)))) cards (now (volume .entry)) place) ⌝ }
 {
     let found = line(volume, cards, place);
     if found.len() == 0 {
@@ -143,7 +145,7 @@ pub fn name<'a>(volume: &'a [u8], cards: usize, place: usize) -> &'a [u8]
 
 // The sequence number of the line at a place, as a part of the volume; empty on a refusal.
 pub fn sequence<'a>(volume: &'a [u8], cards: usize, place: usize) -> &'a [u8]
-    ensures { λ r. ⌜ now r ≡ sequenceOf (lineOf (rowOf Form.Old) cards (now (volume .entry)) place) ⌝ }
+    ensures { λ r. ⌜ now r ≡ sequenceOf (lineOf (rowOf (formIn cards (now (volume .entry)))) cards (now (volume .entry)) place) ⌝ }
 {
     let found = line(volume, cards, place);
     if found.len() == 0 {

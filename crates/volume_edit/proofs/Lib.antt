@@ -1,3 +1,5 @@
 pub mod Writes
 pub mod Appends
 pub mod Kept
+pub mod Accepted
+pub mod Answered

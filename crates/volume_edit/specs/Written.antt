@@ -3,7 +3,7 @@ use Prim.Native.Nat.{ℕ, _+_, _*_, _^_, _≤_, _<_}
 use mathlib.Core.Path.{_≡_}
 use mathlib.Core.Bool.{cond}
 use mathlib.Core.List.{List, _++_}
-use lib.ListN.{length, drop}
+use lib.ListN.{length, take, drop}
 use lib.Dec.{eqb}
 use Rattle.base_refusal.specs.Refusals.{refusal}
 use Rattle.header_check.specs.declared.Checked.{Checked}
@@ -11,7 +11,11 @@ use Rattle.header_check.specs.declared.Checked.the-variants as checked
 use Rattle.header_check.specs.forms.Cards.{cardsIn}
 use Rattle.volume_form.specs.declared.Form.{Form}
 use Rattle.volume_form.specs.Rows.{Row, rowOf}
-use Rattle.volume_rules.specs.Volume.{volumeOf}
+use Rattle.volume_rules.specs.Volume.{joined, volumeOf}
+use Rattle.volume_rules.specs.Sound.{headersOf}
+use Rattle.volume_rules.specs.Converted.{convertChecked}
+use Rattle.volume_rules.specs.Latest.{latest, compacted}
+use Rattle.volume_rules.specs.SameLine.{sameLine}
 use Rattle.volume_rules.specs.Judged.{unless, andThen, stated, headerAnswer, volumeAnswer}
 use Rattle.volume_edit.specs.declared.Volume.{Volume}
 use Rattle.volume_edit.specs.declared.Volume.the-variants.{Cards, Refused}
@@ -41,6 +45,20 @@ emptyAnswer buffer = cond (eqb (cardsIn buffer) 0) (Refused (refusal 20 0 0)) (C
 abbrev pub leftBy : Row → Volume → List (List ℕ) → List ℕ → List ℕ
 leftBy f (Cards n) hs buffer = volumeOf f hs ++ drop (80 * n) buffer
 leftBy f (Refused r) hs buffer = buffer
+
+-- in another form: as many cards as before
+unfoldable pub convertAnswer : Row → Row → ℕ → List ℕ → Volume
+convertAnswer f g n buffer = cardsBy (convertChecked f g n buffer) n
+
+-- compacted: the cards of the lines that are kept
+unfoldable pub compactAnswer : Row → ℕ → List ℕ → Volume
+compactAnswer f n buffer =
+    cardsBy (volumeAnswer f n buffer)
+    (cardsIn (joined (latest sameLine (headersOf f n (take (80 * n) buffer)))) + length (latest sameLine (headersOf f n (take (80 * n) buffer))) + 1)
+
+abbrev pub compactedBy : Row → Volume → List (List ℕ) → List ℕ → List ℕ
+compactedBy f (Cards n) hs buffer = compacted sameLine f hs buffer
+compactedBy f (Refused r) hs buffer = buffer
 
 -- what laying a header asks, where the directory begins at the card `first` and has k cards
 pub record Fits (form : Form) (first k : ℕ) (h buffer : List ℕ) : Type 0 where

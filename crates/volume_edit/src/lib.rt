@@ -1,4 +1,7 @@
 // A volume written in its buffer: the empty one laid, a header appended. Everything is judged before the first byte is written.
+pub mod compact;
+pub mod convert;
+
 use base_refusal::NO_CARDS_LEFT;
 use base_refusal::Refusal;
 use base_refusal::refuse;
@@ -18,6 +21,7 @@ ghost use Rattle.volume_form.specs.Rows.{rowOf};
 ghost use Rattle.volume_rules.specs.Volume.{volumeOf};
 ghost use Rattle.volume_rules.specs.Sound.{headersOf};
 ghost use Rattle.volume_rules.specs.Appended.{appended};
+ghost use Rattle.volume_rules.specs.Judged.{formIn};
 ghost use Rattle.volume_edit.specs.Written.{Fits, roomAnswer, appendChecked, emptyAnswer, appendAnswer, leftBy};
 
 // The number of cards that a volume now has, or the refusal.
@@ -112,16 +116,27 @@ fn write(form: Form, buffer: &mut [u8], cards: usize, header: &[u8]) -> usize
     cards + header.len() / CARD + 1
 }
 
-// Appends a header to a volume.
-pub fn append(buffer: &mut [u8], cards: usize, header: &[u8]) -> Volume
-    ensures answer { λ r. ⌜ r ≡ appendAnswer (rowOf Form.Old) cards (now (buffer .entry)) (now (header .entry)) ⌝ }
+// Appends a header to a volume of a form.
+fn append_to(form: Form, buffer: &mut [u8], cards: usize, header: &[u8]) -> Volume
+    ensures answer { λ r. ⌜ r ≡ appendAnswer (rowOf form) cards (now (buffer .entry)) (now (header .entry)) ⌝ }
     ensures buffer { λ _. ⌜ now (buffer .exit)
-        ≡ leftBy (rowOf Form.Old) (appendAnswer (rowOf Form.Old) cards (now (buffer .entry)) (now (header .entry)))
-        (headersOf (rowOf Form.Old) cards (take (80 * cards) (now (buffer .entry))) ++ (now (header .entry) ∷ [])) (now (buffer .entry)) ⌝ }
+        ≡ leftBy (rowOf form) (appendAnswer (rowOf form) cards (now (buffer .entry)) (now (header .entry)))
+        (headersOf (rowOf form) cards (take (80 * cards) (now (buffer .entry))) ++ (now (header .entry) ∷ [])) (now (buffer .entry)) ⌝ }
 {
-    let checked = judge_append(Form::Old, &buffer[..], cards, header);
+    let checked = judge_append(form, &buffer[..], cards, header);
     match checked {
-        Checked::Accepted => Volume::Cards(write(Form::Old, buffer, cards, header)),
+        Checked::Accepted => Volume::Cards(write(form, buffer, cards, header)),
         Checked::Refused(r) => Volume::Refused(r),
     }
+}
+
+// Appends a header to a volume.
+pub fn append(buffer: &mut [u8], cards: usize, header: &[u8]) -> Volume
+    ensures answer { λ r. ⌜ r ≡ appendAnswer (rowOf (formIn cards (now (buffer .entry)))) cards (now (buffer .entry)) (now (header .entry)) ⌝ }
+    ensures buffer { λ _. ⌜ now (buffer .exit)
+        ≡ leftBy (rowOf (formIn cards (now (buffer .entry)))) (appendAnswer (rowOf (formIn cards (now (buffer .entry)))) cards (now (buffer .entry)) (now (header .entry)))
+        (headersOf (rowOf (formIn cards (now (buffer .entry)))) cards (take (80 * cards) (now (buffer .entry))) ++ (now (header .entry) ∷ [])) (now (buffer .entry)) ⌝ }
+{
+    let form = judging::form_of(&buffer[..], cards);
+    append_to(form, buffer, cards, header)
 }

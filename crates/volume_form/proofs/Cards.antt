@@ -3,11 +3,13 @@ use Prim.Native.Nat.{ℕ, zero, suc, _+_, _-_, _*_, _/_, _^_, _≤_, _<_}
 use native.Mathlib.Nat.{lt-of-lt-of-le, pow-le-pow-right, mul-comm, add-comm}
 use native.Mathlib.Omega.{arith}
 use mathlib.Core.Path.{_≡_, refl, sym, ap, ap₂, _∙_}
+use mathlib.Core.Bool.{false}
 use mathlib.Core.List.{List, [], _∷_, _++_, append-assoc}
 use lib.ListN.{length, take, drop, replicate, length-append, length-replicate, length-take, length-drop}
 use lib.Seq.{take-at, drop-append-add, length-take-le, take-append-le, drop-append-le, take-take}
+use Rattle.base_lists.specs.Parts.{alike}
 use Rattle.volume_form.specs.declared.Form.{Form}
-use Rattle.volume_form.specs.declared.Form.the-variants.{Old}
+use Rattle.volume_form.specs.declared.Form.the-variants.{Old, Wide}
 use Rattle.volume_form.specs.Spelled.{spelled, standing}
 use Rattle.volume_form.specs.Rows.{Row, rowOf}
 use Rattle.volume_form.specs.Marked.{nameOf, sequenceOf, fielded, padded, entryCard, trailerCard, countOn, firstOn, startOn}
@@ -20,23 +22,23 @@ pub record Good (f : Row) : Type 0 where
   pub some : 1 ≤ f .width
   pub narrow : f .width ≤ 20
   pub roomy : f .most < 10 ^ f .width
-
--- there is no other form
-pub is-old : (f : Form) → f ≡ Old
-is-old Old = refl
+  pub apart : alike (f .entry) (f .other) ≡ false
 
 pub good-row : (f : Form) → Good (rowOf f)
-unfolding rowOf
-good-row Old = record { entry5 = refl; trailer5 = refl; some = omega arith; narrow = omega arith; roomy = omega arith }
+unfolding rowOf alike
+good-row Old = record { entry5 = refl; trailer5 = refl; some = omega arith; narrow = omega arith; roomy = omega arith; apart = refl }
+good-row Wide = record { entry5 = refl; trailer5 = refl; some = omega arith; narrow = omega arith; roomy = omega arith; apart = refl }
 
 -- no form has more cards than a machine can count
 pub most-small : (f : Form) → rowOf f .most ≤ 20000
 unfolding rowOf
 most-small Old = omega arith
+most-small Wide = omega arith
 
 pub most-some : (f : Form) → 1 ≤ rowOf f .most
 unfolding rowOf
 most-some Old = omega arith
+most-some Wide = omega arith
 
 -- the field behind p and a blank
 field-at : (p s q : List ℕ) (n w : ℕ) → length p + 1 ≡ n → length s ≡ w → take w (drop n ((p ++ (32 ∷ s)) ++ q)) ≡ s
@@ -140,3 +142,46 @@ entry-longer f h x at n l =
     let b : take 4 (drop 45 (h ++ x)) ≡ take 4 (drop 45 h) =
     ap (take 4) (drop-append-le 45 h x (omega arith)) ∙ take-append-le 4 (drop 45 h) x (rw length-drop (omega arith)) in
     rw (a, b)
+
+-- and they stand there where they are read: in columns 7 to 22 and 24 to 27
+module _ (f : Row) (good : Good f) (h : List ℕ) (at n : ℕ) (long : 80 ≤ length h) where
+  pub name-entry : take 16 (drop 6 (entryCard f h at n)) ≡ nameOf h
+  unfolding entryCard fielded padded
+  name-entry =
+      let p : List ℕ = f .entry ++ (32 ∷ nameOf h) in
+      let q : List ℕ = 32 ∷ sequenceOf h in
+      let a : List ℕ = 32 ∷ spelled (f .width) at in
+      let c : List ℕ = 32 ∷ spelled (f .width) n in
+      ap (λ l. take 16 (drop 6 l)) (append-assoc ((p ++ q) ++ a) c _ ∙ append-assoc (p ++ q) a _ ∙ append-assoc p q _)
+      ∙ field-at (f .entry) (nameOf h) _ 6 16 (ap (λ k. k + 1) (good .entry5)) (length-name h long)
+
+  pub sequence-entry : take 4 (drop 23 (entryCard f h at n)) ≡ sequenceOf h
+  unfolding entryCard fielded padded
+  sequence-entry =
+      let p : List ℕ = f .entry ++ (32 ∷ nameOf h) in
+      let q : List ℕ = 32 ∷ sequenceOf h in
+      let a : List ℕ = 32 ∷ spelled (f .width) at in
+      let c : List ℕ = 32 ∷ spelled (f .width) n in
+      let l : length p ≡ 5 + 17 = length-field (f .entry) (nameOf h) 5 16 (good .entry5) (length-name h long) in
+      ap (λ l. take 4 (drop 23 l)) (append-assoc ((p ++ q) ++ a) c _ ∙ append-assoc (p ++ q) a _)
+      ∙ field-at p (sequenceOf h) _ 23 4 (ap (λ k. k + 1) l) (length-sequence h long)
+
+-- their codes
+pub code-entry : (f : Row) (good : Good f) (h : List ℕ) (at n : ℕ) → take 5 (entryCard f h at n) ≡ f .entry
+unfolding entryCard fielded padded
+code-entry f good h at n =
+    let p : List ℕ = f .entry in
+    let q : List ℕ = 32 ∷ nameOf h in
+    let r : List ℕ = 32 ∷ sequenceOf h in
+    let a : List ℕ = 32 ∷ spelled (f .width) at in
+    let c : List ℕ = 32 ∷ spelled (f .width) n in
+    ap (take 5) (append-assoc (((p ++ q) ++ r) ++ a) c _ ∙ append-assoc ((p ++ q) ++ r) a _ ∙ append-assoc (p ++ q) r _ ∙ append-assoc p q _)
+    ∙ take-at p _ 5 (good .entry5)
+
+pub code-trailer : (f : Row) (good : Good f) (at n : ℕ) → take 5 (trailerCard f at n) ≡ f .trailer
+unfolding trailerCard fielded padded
+code-trailer f good at n =
+    let p : List ℕ = f .trailer in
+    let a : List ℕ = 32 ∷ spelled (f .width) at in
+    let c : List ℕ = 32 ∷ spelled (f .width) n in
+    ap (take 5) (append-assoc (p ++ a) c _ ∙ append-assoc p a _) ∙ take-at p _ 5 (good .trailer5)

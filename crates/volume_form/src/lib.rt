@@ -27,6 +27,7 @@ pub const NUMBERS: usize = 28;
 // The forms of a volume.
 pub enum Form {
     Old,
+    Wide,
 }
 
 // How many columns a number has.
@@ -36,6 +37,7 @@ pub fn width_of(form: Form) -> usize
 {
     match form {
         Form::Old => 3,
+        Form::Wide => 5,
     }
 }
 
@@ -46,6 +48,7 @@ pub fn most_of(form: Form) -> usize
 {
     match form {
         Form::Old => 999,
+        Form::Wide => 20000,
     }
 }
 
@@ -55,6 +58,7 @@ pub fn largest_of(form: Form) -> usize
 {
     match form {
         Form::Old => 800,
+        Form::Wide => 4096,
     }
 }
 
@@ -64,6 +68,7 @@ pub fn entry_code(form: Form) -> [u8; 5]
 {
     match form {
         Form::Old => *b"X0001",
+        Form::Wide => *b"X0011",
     }
 }
 
@@ -73,5 +78,16 @@ pub fn trailer_code(form: Form) -> [u8; 5]
 {
     match form {
         Form::Old => *b"X0009",
+        Form::Wide => *b"X0019",
+    }
+}
+
+// The code of a directory card of the other form.
+pub fn other_code(form: Form) -> [u8; 5]
+    ensures { λ r. ⌜ r ≡ rowOf form .other ⌝ }
+{
+    match form {
+        Form::Old => *b"X0011",
+        Form::Wide => *b"X0001",
     }
 }

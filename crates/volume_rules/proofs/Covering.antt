@@ -27,12 +27,13 @@ cards-of h n e = omega arith
 pub empty : (b : List ℕ) → length b ≡ 0 → b ≡ []
 empty b e = drop-of-length-le b {i = 0} (omega arith)
 
-record Entered (f : Row) (at n : ℕ) (b card : List ℕ) : Type 0 where
+-- what one directory card says of the cards b
+pub record Entered (f : Row) (at n : ℕ) (b card : List ℕ) : Type 0 where
   pub some : 1 ≤ n
   pub within : 80 * n ≤ length b
   pub is : card ≡ entryCard f b at n
 
-entered : (f : Row) (at : ℕ) (b card : List ℕ) → enters f at b card ≡ true → Entered f at (countOn f card) b card
+pub entered : (f : Row) (at : ℕ) (b card : List ℕ) → enters f at b card ≡ true → Entered f at (countOn f card) b card
 unfolding enters
 entered f at b card e =
     let n : ℕ = countOn f card in

@@ -1,11 +1,11 @@
 -- A buffer is accepted exactly if it begins with the volume of headers that are accepted.
-use Prim.Native.Nat.{ℕ, _+_, _-_, _*_, _/_, _%_, _^_, _≤_, _<_}
+use Prim.Native.Nat.{ℕ, zero, suc, _+_, _-_, _*_, _/_, _%_, _^_, _≤_, _<_}
 use native.Mathlib.Omega.{arith}
 use mathlib.Core.Path.{_≡_, refl, sym, ap, ap₂, _∙_}
-use mathlib.Core.Bool.{Bool, true, false, cond, _&&_, false≢true}
+use mathlib.Core.Bool.{Bool, true, false, cond, not, _&&_, _||_, false≢true}
 use mathlib.Core.List.{List, [], _∷_, _++_}
 use lib.ListN.{length, take, drop, length-take}
-use lib.Seq.{length-take-le}
+use lib.Seq.{length-take-le, take-take, take-at, drop-at}
 use lib.Dec.{eqb, leb, ltb}
 use borrow.Author.Tests.{le-leb, leb-true, lt-ltb, le-ltb, eq-eqb, ltb-false}
 use Rattle.base_digits.proofs.digits.Bools.{and-left, and-right}
@@ -17,10 +17,12 @@ use Rattle.header_check.specs.forms.Cards.{cardsIn}
 use Rattle.header_check.specs.Refusing.{refusalOf}
 use Rattle.header_laws.proofs.Exactly.{accepted-exactly}
 use Rattle.volume_form.specs.Rows.{Row}
-use Rattle.volume_form.proofs.Cards.{Good}
+use Rattle.volume_form.specs.Marked.{entryCard, countOn}
+use Rattle.volume_form.proofs.Cards.{Good, code-entry}
 use Rattle.volume_rules.specs.Volume.{joined, directory, volumeOf, Whole, Wholes}
-use Rattle.volume_rules.specs.Sound.{points, covers, lastCard, firstOf, bodyOf, directoryOf, headersOf, sound}
+use Rattle.volume_rules.specs.Sound.{points, mixed, enters, covers, lastCard, firstOf, bodyOf, directoryOf, headersOf, sound}
 use Rattle.volume_rules.specs.Judged.{unless, andThen, stated, headerAnswer, headersAnswer, partsAnswer, cardsAnswer, volumeAnswer, Accepteds, Holds}
+use Rattle.volume_rules.proofs.Covering.{entered}
 use Rattle.volume_rules.proofs.Exactly.{sound-volume, volume-sound, volume-told, volume-long}
 use Rattle.volume_rules.proofs.Promises.{total}
 
@@ -115,6 +117,18 @@ pub taken-wholes : (f : Row) (hs : List (List ℕ)) → Accepteds f hs → Whole
 taken-wholes f [] a = tt
 taken-wholes f (h ∷ hs) a = (header-taken f h (a .0) .whole, taken-wholes f hs (a .1))
 
+-- a directory that covers its cards has no card of the other form
+pub covers-unmixed : (f : Row) (good : Good f) (at : ℕ) (b d : List ℕ) (k : ℕ) → covers f at b d k ≡ true → mixed (f .other) d k ≡ false
+unfolding covers mixed
+covers-unmixed f good at b d zero e = refl
+covers-unmixed f good at b d (suc k) e =
+    let card : List ℕ = take 80 d in
+    let n : ℕ = countOn f card in
+    let x = entered f at b card (and-left (enters f at b card) _ e) in
+    let c : take 5 d ≡ f .entry = sym (take-take 5 80 d (omega arith)) ∙ ap (take 5) (x .is) ∙ code-entry f good b at n in
+    let y = covers-unmixed f good (at + n) (drop (80 * n) b) (drop 80 d) k (and-right (enters f at b card) _ e) in
+    rw (c, good .apart) y
+
 module _ (f : Row) (good : Good f) (n : ℕ) (buffer : List ℕ) where
   abbrev v : List ℕ
   v = take (80 * n) buffer
@@ -132,7 +146,8 @@ module _ (f : Row) (good : Good f) (n : ℕ) (buffer : List ℕ) where
   sounds e =
       let a = unless-passed (stated f n (cardsIn buffer)) 18 _ e in
       let b = unless-passed (points f n (lastCard n v)) 18 _ (a .1) in
-      let c = unless-passed (covers f 1 (bodyOf f n v) (directoryOf f n v) (n - firstOf f n v)) 19 _ (b .1) in
+      let m = unless-passed (not (mixed (f .other) (directoryOf f n v) (n - firstOf f n v))) 18 _ (b .1) in
+      let c = unless-passed (covers f 1 (bodyOf f n v) (directoryOf f n v) (n - firstOf f n v)) 19 _ (m .1) in
       let s = stated-so f n (cardsIn buffer) (a .0) in
       record { stated-well = s; long = front-long n buffer (s .held); points-well = b .0; covers-well = c .0; headers-well = c .1 }
 
@@ -175,5 +190,5 @@ module _ (f : Row) (good : Good f) (n : ℕ) (buffer : List ℕ) where
     volume-accepted =
         let p : points f n (lastCard n v) ≡ true = and-left (points f n (lastCard n v)) _ sound-there in
         let c = and-right (points f n (lastCard n v)) _ sound-there in
-        rw (so-stated f n (cardsIn buffer) (record { some = omega (arith, is .cards); few = is .few; held = held }), p, c, volume-tells)
+        rw (so-stated f n (cardsIn buffer) (record { some = omega (arith, is .cards); few = is .few; held = held }), p, covers-unmixed f good 1 (bodyOf f n v) (directoryOf f n v) (n - firstOf f n v) c, c, volume-tells)
         (taken-headers f hs (is .accepted))

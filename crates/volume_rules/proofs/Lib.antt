@@ -3,7 +3,9 @@ pub mod Exactly
 pub mod Appending
 pub mod Latest
 pub mod Promises
-pub mod Packing
 pub mod Lines
 pub mod Judging
+pub mod Converting
+pub mod Superseded
+pub mod Compacting
 pub mod Examples

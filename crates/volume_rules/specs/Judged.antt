@@ -1,18 +1,21 @@
 -- What is said of a volume, a stated number of cards at the front of a buffer: 18, 19, then each header's own refusal in turn.
 use Prim.Native.Nat.{ℕ, _+_, _-_, _*_, _%_, _≤_}
 use mathlib.Core.Path.{_≡_}
-use mathlib.Core.Bool.{Bool, true, false, cond, _&&_}
+use mathlib.Core.Bool.{Bool, true, false, cond, not, _&&_}
 use mathlib.Core.List.{List, [], _∷_}
-use lib.ListN.{length, take}
+use lib.ListN.{length, take, drop}
 use lib.Dec.{eqb, leb, ltb}
 use Rattle.base_refusal.specs.Refusals.{refusal}
 use Rattle.header_check.specs.declared.Checked.{Checked}
 use Rattle.header_check.specs.declared.Checked.the-variants.{Accepted, Refused}
 use Rattle.header_check.specs.forms.Cards.{cardsIn}
 use Rattle.header_check.specs.Refusing.{refusalOf}
-use Rattle.volume_form.specs.Rows.{Row}
+use Rattle.base_lists.specs.Parts.{alike}
+use Rattle.volume_form.specs.declared.Form.{Form}
+use Rattle.volume_form.specs.declared.Form.the-variants.{Old, Wide}
+use Rattle.volume_form.specs.Rows.{Row, rowOf}
 use Rattle.volume_rules.specs.Volume.{joined, volumeOf}
-use Rattle.volume_rules.specs.Sound.{points, covers, lastCard, firstOf, bodyOf, directoryOf, headersOf}
+use Rattle.volume_rules.specs.Sound.{points, mixed, covers, lastCard, firstOf, bodyOf, directoryOf, headersOf}
 
 -- a refusal without card and column where a test fails, else what is said next
 abbrev pub unless : Bool → ℕ → Checked → Checked
@@ -37,10 +40,11 @@ unfoldable pub headersAnswer : Row → List (List ℕ) → Checked
 headersAnswer f [] = Accepted
 headersAnswer f (h ∷ hs) = andThen (headerAnswer f h) (headersAnswer f hs)
 
--- what the directory covers, and the headers that it tells
+-- cards of the other form; what the directory covers, and the headers that it tells
 unfoldable pub partsAnswer : Row → ℕ → List ℕ → Checked
 partsAnswer f n v =
-    unless (covers f 1 (bodyOf f n v) (directoryOf f n v) (n - firstOf f n v)) 19 (headersAnswer f (headersOf f n v))
+    unless (not (mixed (f .other) (directoryOf f n v) (n - firstOf f n v))) 18
+    (unless (covers f 1 (bodyOf f n v) (directoryOf f n v) (n - firstOf f n v)) 19 (headersAnswer f (headersOf f n v)))
 
 -- n cards: the trailer, then the rest
 unfoldable pub cardsAnswer : Row → ℕ → List ℕ → Checked
@@ -54,6 +58,11 @@ volumeAnswer f n buffer = unless (stated f n (cardsIn buffer)) 18 (cardsAnswer f
 abbrev pub Accepteds : Row → List (List ℕ) → Type 0
 Accepteds f [] = Unit {0}
 Accepteds f (h ∷ hs) = (headerAnswer f h ≡ Accepted) × Accepteds f hs
+
+-- the code of the last card tells the form; what has no such card is judged as an old volume, and is none
+unfoldable pub formIn : ℕ → List ℕ → Form
+formIn n buffer =
+    cond (leb 1 n && leb n (cardsIn buffer)) (cond (alike (take 5 (drop (80 * (n - 1)) buffer)) (rowOf Wide .trailer)) Wide Old) Old
 
 -- n cards at the front of a buffer are the volume of some headers, each of them accepted
 pub record Holds (f : Row) (n : ℕ) (buffer : List ℕ) (hs : List (List ℕ)) : Type 0 where

@@ -1,7 +1,7 @@
 -- What a reader asks of some cards before it takes them for a volume: 18 and 19.
 use Prim.Native.Nat.{ℕ, zero, suc, _+_, _-_, _*_}
 use mathlib.Core.List.{List, [], _∷_, _++_}
-use mathlib.Core.Bool.{Bool, _&&_}
+use mathlib.Core.Bool.{Bool, false, _&&_, _||_}
 use lib.ListN.{length, take, drop}
 use lib.Dec.{eqb, leb}
 use Rattle.base_lists.specs.Parts.{alike}
@@ -27,6 +27,11 @@ unfoldable pub headersIn : Row → List ℕ → List ℕ → ℕ → List (List 
 headersIn f b d zero = []
 headersIn f b d (suc k) =
     take (80 * countOn f (take 80 d)) b ∷ headersIn f (drop (80 * countOn f (take 80 d)) b) (drop 80 d) k
+
+-- one of the k cards d has the code of the other form's directory cards
+unfoldable pub mixed : List ℕ → List ℕ → ℕ → Bool
+mixed other d zero = false
+mixed other d (suc k) = alike (take 5 d) other || mixed other (drop 80 d) k
 
 -- a volume v of n cards in its parts
 unfoldable pub lastCard : ℕ → List ℕ → List ℕ

@@ -4,7 +4,7 @@ use native.Mathlib.Nat.{pow-succ', pow-le-pow-right, mul-comm}
 use native.Mathlib.Numerals.{add-one}
 use native.Mathlib.Omega.{arith}
 use mathlib.Core.Path.{_≡_, refl, sym, ap, ap₂, _∙_}
-use mathlib.Core.Bool.{Bool, true, false, _&&_, cond, false≢true}
+use mathlib.Core.Bool.{Bool, true, false, _&&_, _||_, cond, false≢true}
 use mathlib.Core.List.{List, [], _∷_, _++_}
 use native.Mathlib.Decide.{ℕ-discrete}
 use lib.Dec.{eqb, leb}
@@ -17,7 +17,7 @@ use Rattle.base_lists.proofs.Comparing.{unequal-alike, equal-alike}
 use Rattle.volume_form.specs.Spelled.{standing}
 use Rattle.volume_form.specs.Rows.{Row}
 use Rattle.volume_form.specs.Marked.{entryCard, countOn}
-use Rattle.volume_rules.specs.Sound.{enters, covers}
+use Rattle.volume_rules.specs.Sound.{enters, mixed, covers}
 use Rattle.volume_rules.proofs.Covering.{empty}
 use Rattle.volume_check.specs.Steps.{entered}
 
@@ -139,3 +139,24 @@ step-lent f b d at i n h =
     let p : 80 * i + 80 - 80 * i ≡ 80 = omega arith in
     let q : take (length b - 80 * at) (drop (80 * at) b) ≡ drop (80 * at) b = take-all (length b - 80 * at) (drop (80 * at) b) (rw length-drop (omega arith)) in
     sym (h ∙ ap₂ (λ l k. entered f (at + 1) l (take k (drop (80 * i) d))) q p)
+
+-- the walk that looks for a card of the other form
+module _ (o d : List ℕ) (k i : ℕ) (more : i < k) (t : Bool) (told : t ≡ alike (take (80 * i + 5 - 80 * i) (drop (80 * i) d)) o) where
+  mixed-step : mixed o (drop (80 * i) d) (k - i) ≡ (t || mixed o (drop (80 * (i + 1)) d) (k - (i + 1)))
+  unfolding mixed
+  mixed-step =
+      let e : k - i ≡ suc (k - (i + 1)) = omega arith in
+      let z : 5 ≡ 80 * i + 5 - 80 * i = omega arith in
+      let r : 80 * i + 80 ≡ 80 * (i + 1) = omega arith in
+      rw (e, drop-drop 80 (80 * i) d, r) (ap (λ m. alike (take m (drop (80 * i) d)) o || mixed o (drop (80 * (i + 1)) d) (k - (i + 1))) z
+      ∙ ap (λ x. x || mixed o (drop (80 * (i + 1)) d) (k - (i + 1))) (sym told))
+
+  pub mixed-hit : t ≡ true → mixed o (drop (80 * i) d) (k - i) ≡ true
+  mixed-hit e = mixed-step ∙ rw e
+
+  pub mixed-on : t ≡ false → mixed o (drop (80 * i) d) (k - i) ≡ mixed o (drop (80 * (i + 1)) d) (k - (i + 1))
+  mixed-on e = mixed-step ∙ rw e
+
+pub mixed-none : (o d : List ℕ) (k i : ℕ) → k ≤ i → mixed o d (k - i) ≡ false
+unfolding mixed
+mixed-none o d k i h = let e : k - i ≡ 0 = omega arith in rw e

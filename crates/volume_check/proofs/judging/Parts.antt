@@ -2,19 +2,24 @@
 use Prim.Native.Nat.{ℕ, _+_, _-_, _*_, _/_, _^_, _≤_, _<_}
 use native.Mathlib.Omega.{arith}
 use mathlib.Core.Path.{_≡_, refl, sym, ap, ap₂, _∙_}
-use mathlib.Core.Bool.{true, false}
+use mathlib.Core.Bool.{Bool, true, false, not, cond, _&&_}
 use mathlib.Core.List.{List}
 use lib.ListN.{length, take, drop, length-drop}
 use lib.Seq.{length-take-le}
-use borrow.Author.Tests.{le-leb}
+use lib.Dec.{leb}
+use borrow.Author.Tests.{le-leb, lt-leb}
 use Rattle.base_refusal.specs.Refusals.{refusal}
 use Rattle.header_check.specs.declared.Checked.{Checked}
 use Rattle.header_check.specs.declared.Checked.the-variants.{Accepted, Refused}
 use Rattle.header_check.specs.forms.Cards.{cardsIn}
 use Rattle.volume_form.specs.Rows.{Row}
 use Rattle.volume_form.proofs.Cards.{Good}
-use Rattle.volume_rules.specs.Sound.{points, covers, headersIn, lastCard, firstOf, bodyOf, directoryOf, headersOf}
-use Rattle.volume_rules.specs.Judged.{unless, stated, headersAnswer, partsAnswer, cardsAnswer, volumeAnswer}
+use Rattle.volume_rules.specs.Sound.{points, mixed, covers, headersIn, lastCard, firstOf, bodyOf, directoryOf, headersOf}
+use Rattle.volume_rules.specs.Judged.{unless, stated, headersAnswer, partsAnswer, cardsAnswer, volumeAnswer, formIn}
+use Rattle.base_lists.specs.Parts.{alike}
+use Rattle.volume_form.specs.declared.Form.{Form}
+use Rattle.volume_form.specs.declared.Form.the-variants.{Old, Wide}
+use Rattle.volume_form.specs.Rows.{rowOf}
 use Rattle.volume_rules.proofs.Exactly.{Pointed, pointed}
 use Rattle.volume_rules.proofs.Judging.{Stated, stated-so, front-long}
 use Rattle.volume_check.specs.Steps.{Cards, Trailed}
@@ -67,15 +72,16 @@ module _ (f : Row) (n : ℕ) (v : List ℕ) (t : Trailed f n v) where
 
   -- what is said of the parts is said of the cards
   pub parts-said : (b d : List ℕ) (r : Checked) → b ≡ bodyOf f n v → d ≡ directoryOf f n v
-      → r ≡ unless (covers f 1 b d (length d / 80)) 19 (headersAnswer f (headersIn f b d (length d / 80))) → r ≡ cardsAnswer f n v
+      → r ≡ unless (not (mixed (f .other) d (length d / 80))) 18 (unless (covers f 1 b d (length d / 80)) 19 (headersAnswer f (headersIn f b d (length d / 80))))
+      → r ≡ cardsAnswer f n v
   unfolding cardsAnswer partsAnswer headersOf
   parts-said b d r p q e =
       let k : length d / 80 ≡ n - firstOf f n v = omega (arith, ap length q ∙ directory-long) in
       e
-      ∙ ap (λ m. unless (covers f 1 b d m) 19 (headersAnswer f (headersIn f b d m))) k
-      ∙ ap₂ (λ x y. unless (covers f 1 x y (n - firstOf f n v)) 19 (headersAnswer f (headersIn f x y (n - firstOf f n v)))) p q
-      ∙ sym (ap (λ x. unless x 18 (unless (covers f 1 (bodyOf f n v) (directoryOf f n v) (n - firstOf f n v)) 19
-      (headersAnswer f (headersIn f (bodyOf f n v) (directoryOf f n v) (n - firstOf f n v))))) (t .trailer))
+      ∙ ap (λ m. unless (not (mixed (f .other) d m)) 18 (unless (covers f 1 b d m) 19 (headersAnswer f (headersIn f b d m)))) k
+      ∙ ap₂ (λ x y. unless (not (mixed (f .other) y (n - firstOf f n v))) 18 (unless (covers f 1 x y (n - firstOf f n v)) 19 (headersAnswer f (headersIn f x y (n - firstOf f n v))))) p q
+      ∙ sym (ap (λ x. unless x 18 (unless (not (mixed (f .other) (directoryOf f n v) (n - firstOf f n v))) 18 (unless (covers f 1 (bodyOf f n v) (directoryOf f n v) (n - firstOf f n v)) 19
+      (headersAnswer f (headersIn f (bodyOf f n v) (directoryOf f n v) (n - firstOf f n v)))))) (t .trailer))
 
 -- no trailer
 pub no-trailer : (f : Row) (n : ℕ) (v : List ℕ) → points f n (lastCard n v) ≡ false → Refused (refusal 18 0 0) ≡ cardsAnswer f n v
@@ -105,3 +111,48 @@ module _ (f : Row) (n : ℕ) (buffer : List ℕ) where
   pub stated-said : stated f n (length buffer / 80) ≡ true → (r : Checked) → r ≡ cardsAnswer f n (take (80 * n) buffer) → r ≡ volumeAnswer f n buffer
   unfolding volumeAnswer cardsIn
   stated-said e r a = rw e a
+
+-- the form
+module _ (n : ℕ) (buffer : List ℕ) where
+  pub form-none : n ≡ 0 → Old ≡ formIn n buffer
+  unfolding formIn
+  form-none e = rw e
+
+  pub form-short : (n ≡ 0 → ⊥) → length buffer / 80 < n → Old ≡ formIn n buffer
+  unfolding formIn cardsIn
+  form-short s e = rw (lt-leb n (length buffer / 80) e) (go (leb 1 n))
+    where
+      go : (t : Bool) → Old ≡ cond (t && false) (cond (alike (take 5 (drop (80 * (n - 1)) buffer)) (rowOf Wide .trailer)) Wide Old) Old
+      go true = refl
+      go false = refl
+
+  module _ (s : n ≡ 0 → ⊥) (held : n ≤ length buffer / 80) (code : List ℕ) (is : code ≡ rowOf Wide .trailer) (t : Bool)
+      (told : t ≡ alike (take (80 * (n - 1) + 5 - 80 * (n - 1)) (drop (80 * (n - 1)) buffer)) code) where
+    five : alike (take 5 (drop (80 * (n - 1)) buffer)) (rowOf Wide .trailer) ≡ t
+    five = let e : 80 * (n - 1) + 5 - 80 * (n - 1) ≡ 5 = omega arith in
+        sym (told ∙ ap (λ m. alike (take m (drop (80 * (n - 1)) buffer)) code) e ∙ ap (alike (take 5 (drop (80 * (n - 1)) buffer))) is)
+
+    by-code : cond t Wide Old ≡ formIn n buffer
+    unfolding formIn cardsIn
+    by-code = rw (le-leb 1 n (omega arith), le-leb n (length buffer / 80) held, five)
+
+    pub form-wide : t ≡ true → Wide ≡ formIn n buffer
+    form-wide e = sym (ap (λ x. cond x Wide Old) e) ∙ by-code
+
+    pub form-old : t ≡ false → Old ≡ formIn n buffer
+    form-old e = sym (ap (λ x. cond x Wide Old) e) ∙ by-code
+
+-- what is said of the parts, test by test
+module _ (f : Row) (b d : List ℕ) (m : Bool) (m-is : m ≡ mixed (f .other) d (length d / 80)) where
+  abbrev said : Checked
+  said = unless (not (mixed (f .other) d (length d / 80))) 18 (unless (covers f 1 b d (length d / 80)) 19 (headersAnswer f (headersIn f b d (length d / 80))))
+
+  pub parts-mixed : m ≡ true → Refused (refusal 18 0 0) ≡ said
+  parts-mixed e = rw (← m-is, e)
+
+  module _ (plain : m ≡ false) (t : Bool) (t-is : t ≡ covers f 1 b d (length d / 80)) where
+    pub parts-covered : t ≡ true → headersAnswer f (headersIn f b d (length d / 80)) ≡ said
+    parts-covered e = rw (← m-is, plain, ← t-is, e)
+
+    pub parts-uncovered : t ≡ false → Refused (refusal 19 0 0) ≡ said
+    parts-uncovered e = rw (← m-is, plain, ← t-is, e)

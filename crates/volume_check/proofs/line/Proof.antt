@@ -5,7 +5,7 @@ use lib.ListN.{length}
 use Rattle.volume_check.specs.Answers.{partOf, lineOf}
 use Rattle.volume_check.specs.Steps.{inside}
 use Rattle.volume_check.proofs.Placing.{found-inside}
-use Rattle.volume_form.specs.declared.Form.the-variants.{Old}
+use Rattle.volume_rules.specs.Judged.{formIn}
 use Rattle.volume_form.proofs.Cards.{good-row}
 use Rattle.volume_form.specs.Rows.{rowOf}
 use native.Mathlib.Omega.{arith}
@@ -17,7 +17,7 @@ find-line-requires : tie.Need-find-line-requires
 find-line-requires c κs = search needs
 
 part-of-requires : tie.Need-part-of-requires
-part-of-requires c κs = ap (λ x. inside x (length (now (c .before .before .args .volume)))) (c .find-line .ensures) ∙ found-inside (rowOf Old) (good-row Old) (c .before .before .args .cards) (now (c .before .before .args .volume)) (c .before .before .args .place)
+part-of-requires c κs = ap (λ x. inside x (length (now (c .before .before .args .volume)))) (c .find-line .ensures) ∙ found-inside (rowOf (formIn (c .before .before .args .cards) (now (c .before .before .args .volume)))) (good-row (formIn (c .before .before .args .cards) (now (c .before .before .args .volume)))) (c .before .before .args .cards) (now (c .before .before .args .volume)) (c .before .before .args .place)
 
 returns : tie.Need-returns
 unfolding lineOf

@@ -3,7 +3,7 @@ use denote.Ref.{now}
 use mathlib.Core.Path.{_≡_, refl, sym, ap, _∙_}
 use Rattle.volume_check.proofs.Placing.{some-there, none-name}
 use Rattle.volume_form.specs.Marked.{nameOf}
-use Rattle.volume_form.specs.declared.Form.the-variants.{Old}
+use Rattle.volume_rules.specs.Judged.{formIn}
 use Rattle.volume_form.proofs.Cards.{good-row}
 use Rattle.volume_form.specs.Rows.{rowOf}
 use native.Mathlib.Omega.{arith}
@@ -24,7 +24,7 @@ part-result-start : tie.Need-part-result-start
 part-result-start c = omega arith
 
 part-result-end : tie.Need-part-result-end
-part-result-end c = omega (arith, some-there (rowOf Old) (good-row Old) (c .before .before .before .args .cards) (now (c .before .before .before .args .volume)) (c .before .before .before .args .place) _ (c .before .line .ensures) (c .if1 .left))
+part-result-end c = omega (arith, some-there (rowOf (formIn (c .before .before .before .args .cards) (now (c .before .before .before .args .volume)))) (good-row (formIn (c .before .before .before .args .cards) (now (c .before .before .before .args .volume)))) (c .before .before .before .args .cards) (now (c .before .before .before .args .volume)) (c .before .before .before .args .place) _ (c .before .line .ensures) (c .if1 .left))
 
 returns-2 : tie.Need-returns-2
 unfolding nameOf

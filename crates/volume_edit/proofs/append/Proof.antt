@@ -1,37 +1,42 @@
--- `volume_edit::append` meets its contract.
 use denote.Ref.{now}
-use mathlib.Core.Path.{_≡_, refl, sym, ap, _∙_}
+use Prim.Native.Nat.{_*_}
+use lib.ListN.{take}
+use mathlib.Core.List.{[], _∷_, _++_}
+use mathlib.Core.Path.{_≡_, refl, sym, ap, ap₂, _∙_}
 use Rattle.volume_form.specs.Rows.{rowOf}
-use Rattle.volume_form.specs.declared.Form.the-variants.{Old}
-use Rattle.volume_edit.proofs.Appends.{append-done, append-refused}
-use native.Mathlib.Omega.{arith}
+use Rattle.volume_rules.specs.Sound.{headersOf}
+use Rattle.volume_edit.specs.Written.{appendAnswer, leftBy}
 use borrow.Author.Needs.{needs}
 use Rattle.volume_edit.proofs.append.Statement.{statement}
 use Rattle.volume_edit.proofs.append.Tie as tie
+use Rattle.volume_edit.proofs.append.Reads as reads
+use Rattle.volume_edit.proofs.append.Lts as lts
+use Rattle.volume_check.proofs.judging.form_of.Reads as form-of-reads
+use Rattle.volume_edit.proofs.append_to.Reads as append-to-reads
 
-judge-append-requires : tie.Need-judge-append-requires
-judge-append-requires c κs = search needs
+-- src/lib.rt:140:9
+form-of-requires : tie.Need-form-of-requires
+form-of-requires c κs = search needs
 
-enum-told : tie.Need-enum-told
-enum-told c = search needs
+-- src/lib.rt:141:5
+append-to-requires : tie.Need-append-to-requires
+append-to-requires c κs = search needs
 
-write-requires : tie.Need-write-requires
-write-requires c κs = sym (c .before .before .before .judge-append .ensures) ∙ c .before .enum-told .given .1
-
-enum-known-checked : tie.Need-enum-known-checked
-enum-known-checked c = search needs
-
+-- src/lib.rt:134:1
 same-length : tie.Need-same-length
 same-length c = search needs
 
+-- src/lib.rt:134:1
 returns : tie.Need-returns
-returns c = append-done (rowOf Old) (c .before .before .before .before .before .before .before .before .before .before .args .cards) (now (c .before .before .before .before .before .before .before .before .before .before .args .buffer)) (now (c .before .before .before .before .before .before .before .before .before .before .args .header)) _ (c .before .before .before .before .before .before .judge-append .ensures) (c .before .before .before .before .enum-told .given .1) _ _ (c .before .before .write .ensures .0) (c .before .before .write .ensures .1)
-
-same-length-2 : tie.Need-same-length-2
-same-length-2 c = search needs
-
-returns-2 : tie.Need-returns-2
-returns-2 c = append-refused (rowOf Old) (c .before .before .before .before .before .before .before .args .cards) (now (c .before .before .before .before .before .before .before .args .buffer)) (now (c .before .before .before .before .before .before .before .args .header)) _ (c .before .before .before .judge-append .ensures) _ (c .before .checked .given .1) _ refl
+returns c =
+    let a = c .before .before .before .before .before .before .before .before in
+    let s = now (a .args .buffer) in
+    let h = now (a .args .header) in
+    let n = a .args .cards in
+    let e = c .before .before .before .before .form-of .ensures in (
+      c .before .before .append-to .ensures .0 ∙ ap (λ x. appendAnswer (rowOf x) n s h) e,
+      c .before .before .append-to .ensures .1 ∙ ap (λ x. leftBy (rowOf x) (appendAnswer (rowOf x) n s h) (headersOf (rowOf x) n (take (80 * n) s) ++ (h ∷ [])) s) e,
+    )
 
 pub append-spec : {M : Type 1} → statement M
-append-spec = tie.close (tie.spec judge-append-requires enum-told write-requires enum-known-checked same-length returns same-length-2 returns-2)
+append-spec = tie.close (tie.spec form-of-requires append-to-requires same-length returns)

@@ -1,0 +1,41 @@
+use denote.Ref.{now}
+use Prim.Native.Nat.{_*_}
+use lib.ListN.{take}
+use mathlib.Core.Path.{_≡_, refl, sym, ap, ap₂, _∙_}
+use Rattle.volume_form.specs.declared.Form.the-variants.{Wide}
+use Rattle.volume_form.specs.Rows.{rowOf}
+use Rattle.volume_rules.specs.Sound.{headersOf}
+use Rattle.volume_edit.specs.Written.{convertAnswer, leftBy}
+use borrow.Author.Needs.{needs}
+use Rattle.volume_edit.proofs.convert.widen.Statement.{statement}
+use Rattle.volume_edit.proofs.convert.widen.Tie as tie
+use Rattle.volume_edit.proofs.convert.widen.Reads as reads
+use Rattle.volume_edit.proofs.convert.widen.Lts as lts
+use Rattle.volume_check.proofs.judging.form_of.Reads as form-of-reads
+use Rattle.volume_edit.proofs.convert.convert_to.Reads as convert-to-reads
+
+-- src/convert.rt:147:9
+form-of-requires : tie.Need-form-of-requires
+form-of-requires c κs = search needs
+
+-- src/convert.rt:148:5
+convert-to-requires : tie.Need-convert-to-requires
+convert-to-requires c κs = search needs
+
+-- src/convert.rt:141:1
+same-length : tie.Need-same-length
+same-length c = search needs
+
+-- src/convert.rt:141:1
+returns : tie.Need-returns
+returns c =
+    let a = c .before .before .before .before .before .before .before in
+    let s = now (a .args .buffer) in
+    let n = a .args .cards in
+    let e = c .before .before .before .before .form-of .ensures in (
+      c .before .before .convert-to .ensures .0 ∙ ap (λ x. convertAnswer (rowOf x) (rowOf Wide) n s) e,
+      c .before .before .convert-to .ensures .1 ∙ ap (λ x. leftBy (rowOf Wide) (convertAnswer (rowOf x) (rowOf Wide) n s) (headersOf (rowOf x) n (take (80 * n) s)) s) e,
+    )
+
+pub widen-spec : {M : Type 1} → statement M
+widen-spec = tie.close (tie.spec form-of-requires convert-to-requires same-length returns)
