@@ -72,12 +72,13 @@ enum {
     P294_NO_OUTPUT = 17,    /* the output has too little room; card and column 0 */
     P294_NO_TRAILER = 18,   /* a volume's stated number of cards, its trailer, or what that points at; card and column 0 */
     P294_NO_DIRECTORY = 19, /* a volume's directory; card and column 0 */
-    P294_NO_CARDS_LEFT = 20, /* a volume would have more cards than it may or than the buffer holds; card and column 0 */
+    P294_NO_CARDS_LEFT = 20,,/* a volume would have more cards than it may or than the buffer holds; card and column 0 */
     P294_DATUM_TWICE = 22,   /* routes: a datum is defined more than once; card and column 0 */
     P294_NO_COMPASS = 23,     /* heading: the serial is not defined exactly once; card and column 0, as of all that follow */
     P294_NO_CORRECTIONS = 24, /* heading: there is not exactly one H23@0 card for the serial */
     P294_NO_DIRECTION = 25,   /* heading: a direction outside 0..360, or the card lists one twice (0 beside 360 counts) */
     P294_NO_READING = 26      /* heading: a raw reading below 0 or not below 360, or with more than 11 places */
+    P294_NOT_OLD = 21       /* a wide volume that the old form cannot hold; card and column 0 */
 };
 
 /* Kinds of value, with the numbers that go with each. */
@@ -179,14 +180,15 @@ int64_t p294_from_ebcdic(const uint8_t *tape, size_t length, uint8_t *out, size_
 int64_t p294_to_ebcdic(const uint8_t *text, size_t length, uint8_t *out, size_t out_length, int64_t *numbers, size_t room);
 
 /* A VOLUME holds the headers of a season: the cards of each header in turn, then a directory card for each, then one trailer
- * that points back. It is the first `cards` cards of a lent buffer, which may be longer; cards is any number at all. At most
- * P294_VOLUME cards.
- * Every function judges the whole volume first. Refused 18: cards is 0, above P294_VOLUME or more than the buffer holds, the
- * last card is no trailer, or does not point at the cards just before it. Then 19: a directory card is malformed, the directory
- * does not cover the cards before it once and in order, a header has no card, or a directory card has another name or sequence
- * than the header's first card. Then the headers' own refusals as p294_check gives them, in turn, card and column counted in
- * that header. A header with faults is good. */
-enum { P294_VOLUME = 999 };
+ * that points back. It is the first `cards` cards of a lent buffer, which may be longer; cards is any number at all.
+ * It has one of two FORMS, by the trailer's code: the old one has at most P294_VOLUME cards and headers of 800, the wide one
+ * P294_WIDE and P294_CARDS. A header of more cards than its form allows is a 3.
+ * Every function judges the whole volume first. Refused 18: cards is 0, above what the form allows or more than the buffer
+ * holds, the last card is no trailer, or does not point at the cards just before it, or one of these has the code of the other
+ * form's directory cards. Then 19: a directory card is malformed, the directory does not cover the cards before it once and in
+ * order, a header has no card, or a directory card has another name or sequence than the header's first card. Then the headers'
+ * own refusals as p294_check gives them, in turn, card and column counted in that header. A header with faults is good. */
+enum { P294_VOLUME = 999, P294_WIDE = 20000 };
 
 /* Lays the empty volume into a buffer: a trailer alone. said is 1, the number of cards. Nothing behind it is written. Refused 20
  * where the buffer holds no card. */
@@ -202,7 +204,7 @@ int64_t p294_volume_line(const uint8_t *volume, size_t length, size_t cards, siz
 
 /* Appends a header: it follows the others, the directory moves behind it and gets a card more, and the trailer is new. said is
  * the new number of cards, which is cards, those of the header, and 1. All earlier headers stand as they stood; nothing behind the
- * new trailer is written. Refused as above, then as p294_check refuses the header, then 20 (more than P294_VOLUME cards, or than
+ * new trailer is written. Refused as above, then as p294_check refuses the header, then 20 (more cards than the form allows, or than
  * the buffer holds). */
 int64_t p294_volume_append(uint8_t *buffer, size_t length, size_t cards, const uint8_t *header, size_t header_length,
                            int64_t *numbers, size_t room);
@@ -226,6 +228,13 @@ enum { P294_ROUTE = 9, P294_NO_ROUTE = 9, P294_NOT_DEFINED = 10 };
  * nothing. Blanks behind the serial do not count. Refused as p294_check refuses the header, then 23, 24, 25, 26. */
 int64_t p294_heading(const uint8_t *header, size_t length, const uint8_t *serial, size_t serial_length, int64_t raw,
                      size_t raw_places, int64_t direction, int64_t *numbers, size_t room);
+
+/* Bring a volume to the wide form, or to the old one, within its own cards; one that has it already is left as it is. said is the
+ * number of cards, which is the same as before; nothing behind them is written. Refused as above; to the old form then 21: more
+ * than P294_VOLUME cards, or a header of more than 800. An old volume that was widened and is brought back has the bytes that it
+ * had. */
+int64_t p294_volume_widen(uint8_t *buffer, size_t length, size_t cards, int64_t *numbers, size_t room);
+int64_t p294_volume_narrow(uint8_t *buffer, size_t length, size_t cards, int64_t *numbers, size_t room);
 
 #ifdef __cplusplus
 }

@@ -1,4 +1,4 @@
-// A season's volume, a second time. The paper: request No. 8.
+// A season's volume, a second time. The paper: requests No. 8 and No. 9.
 #include "volume.h"
 #include "header.h"
 
@@ -11,8 +11,8 @@ struct form {
     size_t most, largest;
 };
 
-static const struct form forms[] = {{"X0001", "X0009", 3, MOST_VOLUME, 800}};
-enum { FORMS = sizeof forms / sizeof *forms };
+enum { OLD, WIDE, FORMS };
+static const struct form forms[FORMS] = {{"X0001", "X0009", 3, MOST_VOLUME, 800}, {"X0011", "X0019", 5, MOST_WIDE, 4096}};
 
 // Columns: of name and sequence on a directory card and on H0000, of the first number on a directory card and on a trailer.
 // The second number stands a blank behind the first.
@@ -116,6 +116,16 @@ static const struct form *form_of(const uint8_t *trailer)
     return NULL;
 }
 
+// Whether a directory card has the code of another form's.
+static int is_mixed(const uint8_t *volume, const struct directory *l)
+{
+    for (size_t card = l->first; card < l->first + l->entries; card++)
+        for (const struct form *f = forms; f < forms + FORMS; f++)
+            if (f != l->form && has_code(card_in(volume, card), f->entry))
+                return 1;
+    return 0;
+}
+
 // 18: the stated number, the trailer and what it points at.
 static int is_pointed(const uint8_t *volume, size_t size, size_t stated, struct directory *l)
 {
@@ -124,7 +134,7 @@ static int is_pointed(const uint8_t *volume, size_t size, size_t stated, struct 
     const uint8_t *trailer = card_in(volume, stated);
     l->form = form_of(trailer);
     return l->form && stated <= l->form->most && read_numbers(trailer, l->form, TRAILER_NUMBERS, &l->first, &l->entries) &&
-           l->first >= 1 && l->first + l->entries == stated;
+           l->first >= 1 && l->first + l->entries == stated && !is_mixed(volume, l);
 }
 
 // The line that a directory card names; 0 where the card is malformed.
@@ -182,7 +192,7 @@ struct refusal empty_volume(uint8_t *buffer, size_t size, size_t *cards)
 {
     if (size < CARD_SIZE)
         return refuse(20);
-    write_trailer(buffer, &forms[0], 1, 0);
+    write_trailer(buffer, &forms[OLD], 1, 0);
     *cards = 1;
     return none;
 }
@@ -227,4 +237,51 @@ struct refusal append_line(uint8_t *buffer, size_t size, size_t stated, const ui
     write_entry(entries + l.entries * CARD_SIZE, l.form, header, l.first, more);
     write_trailer(buffer + (*cards - 1) * CARD_SIZE, l.form, l.first + more, l.entries + 1);
     return none;
+}
+
+// Directory and trailer written anew in a form.
+static void rewrite(uint8_t *buffer, size_t stated, const struct directory *l, const struct form *to)
+{
+    for (size_t place = 1; place <= l->entries; place++) {
+        struct line line;
+        read_entry(buffer, l, place, &line);
+        write_entry(buffer + (line.entry - 1) * CARD_SIZE, to, card_in(buffer, line.first), line.first, line.cards);
+    }
+    write_trailer(buffer + (stated - 1) * CARD_SIZE, to, l->first, l->entries);
+}
+
+// Whether a form can hold a volume: its cards, and those of each header.
+static int holds(const struct form *f, const uint8_t *volume, size_t stated, const struct directory *l)
+{
+    for (size_t place = 1; place <= l->entries; place++) {
+        struct line line;
+        read_entry(volume, l, place, &line);
+        if (line.cards > f->largest)
+            return 0;
+    }
+    return stated <= f->most;
+}
+
+static struct refusal convert(uint8_t *buffer, size_t size, size_t stated, const struct form *to, size_t *cards)
+{
+    struct directory l;
+    struct refusal r = judge_volume(buffer, size, stated, &l);
+    if (r.number)
+        return r;
+    if (!holds(to, buffer, stated, &l))
+        return refuse(21);
+    if (l.form != to)
+        rewrite(buffer, stated, &l, to);
+    *cards = stated;
+    return none;
+}
+
+struct refusal widen_volume(uint8_t *buffer, size_t size, size_t stated, size_t *cards)
+{
+    return convert(buffer, size, stated, &forms[WIDE], cards);
+}
+
+struct refusal narrow_volume(uint8_t *buffer, size_t size, size_t stated, size_t *cards)
+{
+    return convert(buffer, size, stated, &forms[OLD], cards);
 }

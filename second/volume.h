@@ -6,8 +6,8 @@
 
 #include "card.h"
 
-// The most cards that any volume has.
-enum { MOST_VOLUME = 999 };
+// The most cards of a volume in the old form and in the wide one.
+enum { MOST_VOLUME = 999, MOST_WIDE = 20000 };
 
 // Where a line stands: its first card, its number of cards, and its directory card.
 struct line {
@@ -20,5 +20,9 @@ struct refusal empty_volume(uint8_t *buffer, size_t size, size_t *cards);
 struct refusal lines_in(const uint8_t *volume, size_t size, size_t stated, size_t *lines);
 struct refusal line_at(const uint8_t *volume, size_t size, size_t stated, size_t place, struct line *line);
 struct refusal append_line(uint8_t *buffer, size_t size, size_t stated, const uint8_t *header, size_t header_size, size_t *cards);
+
+// Bring a volume to a form, within its own cards; *cards is their number, as it was.
+struct refusal widen_volume(uint8_t *buffer, size_t size, size_t stated, size_t *cards);
+struct refusal narrow_volume(uint8_t *buffer, size_t size, size_t stated, size_t *cards);
 
 #endif

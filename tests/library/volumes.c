@@ -8,15 +8,22 @@
 #include "../../second/volume.h"
 #include "compare.h"
 
-// The most lines of a season and cards of its headers; bytes behind what is lent; the most bytes of a case's buffer.
-enum { MOST_LINES = 60, MOST_SEASON = 1100, BEHIND = 2 * CARD_SIZE, BUFFER = (MOST_SEASON + 900) * CARD_SIZE };
+// The most lines of a season and cards of its headers; the most cards of a header that is made; bytes behind what is lent; the
+// most bytes of a case's buffer, and of one that a small volume needs.
+enum { MOST_LINES = 60, MOST_SEASON = 20010, MOST_HEADER = 4200, BEHIND = 2 * CARD_SIZE };
+enum { BUFFER = (MOST_SEASON + MOST_HEADER) * CARD_SIZE, SMALL_BUFFER = (2000 + MOST_HEADER) * CARD_SIZE };
 
 // How a form is written: codes, width of numbers, limits.
 static const struct shape {
     const char *entry, *trailer;
     unsigned width;
     size_t most, largest;
-} shapes[] = {{"X0001", "X0009", 3, 999, 800}};
+} shapes[] = {{"X0001", "X0009", 3, 999, 800}, {"X0011", "X0019", 5, 20000, 4096}};
+
+static const struct shape *other_shape(const struct shape *shape)
+{
+    return &shapes[shape == shapes];
+}
 
 // Headers one behind the other, as a volume has them.
 struct season {
@@ -81,14 +88,18 @@ static size_t damaged_header(uint8_t *to)
     return h.count;
 }
 
-// How many cards the next header is filled up to: mostly not at all, some to the limits of a header or a volume.
-static size_t cards_wanted(const struct season *s)
+// How many cards the next header is filled up to: mostly not at all, some to the limits of a header or a volume. In a large season
+// all are, up to the last card or until less than a header's cards are left.
+enum { AS_COMES, TO_THE_LAST, TO_SOME };
+static size_t cards_wanted(const struct season *s, int large)
 {
     size_t largest = s->shape->largest, left = s->shape->most - s->total - s->lines - 2;
+    if (large)
+        return left > 800 ? 800 - below(20) : large == TO_THE_LAST ? left : MOST_HEADER;
     switch (below(40)) {
     case 0: return largest + 1;
     case 1:
-    case 2: return largest - below(50);
+    case 2: return 760 + below(100);
     case 3: return left > largest ? largest : left;
     case 4: return left > largest ? largest - 1 : left - 1;
     case 5: return left > largest ? largest : left - 30 - below(30);
@@ -102,15 +113,15 @@ static int has_room(const struct season *s, size_t cards)
     return s->lines < MOST_LINES && s->total + cards + s->lines + 2 <= s->shape->most;
 }
 
-static void make_season(struct season *s, int damaged)
+static void make_season(struct season *s, const struct shape *shape, int damaged, int large)
 {
-    static uint8_t header[MOST_SEASON * CARD_SIZE];
-    s->shape = &shapes[0];
+    static uint8_t header[MOST_HEADER * CARD_SIZE];
+    s->shape = shape;
     s->lines = s->total = 0;
-    for (unsigned n = percent(10) ? 0 : percent(5) ? 40 : 1 + below(6); n; n--) {
-        size_t wanted = cards_wanted(s);
-        int bad = damaged && percent(n == 1 ? 60 : 30);
-        size_t cards = bad ? damaged_header(header) : wanted < MOST_SEASON ? good_header(header, wanted) : 0;
+    for (unsigned n = percent(10) ? 0 : percent(5) || large ? 40 : 1 + below(6); n; n--) {
+        size_t wanted = cards_wanted(s, large);
+        int bad = damaged && percent(n == 1 ? 60 : large ? 2 : 30);
+        size_t cards = bad ? damaged_header(header) : wanted < MOST_HEADER ? good_header(header, wanted) : 0;
         if (cards > 0 && has_room(s, cards))
             add_line(s, header, cards);
     }
@@ -148,9 +159,9 @@ static void put_trailer(struct volume *v, size_t card, size_t first, size_t entr
     put_number(at + 6 + v->shape->width + 1, v->shape->width, entries);
 }
 
-static void fill(struct volume *v, unsigned turn)
+static void fill(struct volume *v, unsigned turn, size_t size)
 {
-    for (size_t i = 0; i < BUFFER; i++)
+    for (size_t i = 0; i < size; i++)
         v->at[i] = (uint8_t)(i * 7 + turn);
 }
 
@@ -260,12 +271,16 @@ static int too_many_stated(struct volume *v)
 {
     // some wrap around to few bytes when they are multiplied by 80
     static const uint64_t many[] = {UINT64_MAX, (uint64_t)1 << 63, UINT64_MAX / 80 + 1, UINT64_MAX / 80 + 2, (uint64_t)1 << 32,
-                                    ((uint64_t)1 << 60) + 1, 20001, 1000};
-    v->stated = (size_t)many[below(8)];
-    if (v->stated == 1000) {
-        v->lent = 1000 * CARD_SIZE;
-        put_trailer(v, 1000, 999, 1);
+                                    ((uint64_t)1 << 60) + 1};
+    size_t one_more = v->shape->most + 1;
+    if (percent(60)) {
+        v->stated = (size_t)many[below(6)];
+        return 1;
     }
+    // one card too many, behind which the buffer still goes on
+    v->stated = one_more;
+    v->lent = one_more * CARD_SIZE;
+    put_trailer(v, one_more, one_more - 1, 1);
     return 1;
 }
 
@@ -317,9 +332,28 @@ static int directory_moved(struct volume *v)
     return 1;
 }
 
+// The other form's trailer code too; not its directory code, which is mixed.
 static int entry_code(struct volume *v)
 {
-    return other_code(some_entry(v), v->shape->trailer);
+    uint8_t *entry = some_entry(v);
+    int done = other_code(entry, percent(50) ? v->shape->trailer : other_shape(v->shape)->trailer);
+    if (done && memcmp(entry, other_shape(v->shape)->entry, CODE_SIZE) == 0)
+        entry[0] = 'x';
+    return done;
+}
+
+static int mixed(struct volume *v)
+{
+    uint8_t *entry = some_entry(v);
+    if (entry == NULL)
+        return 0;
+    memcpy(entry, other_shape(v->shape)->entry, CODE_SIZE);
+    if (percent(50))
+        memset(entry + CODE_SIZE, 'x', CARD_SIZE - CODE_SIZE);
+    // another that is malformed makes it no 19
+    if (percent(50))
+        some_entry(v)[CARD_SIZE - 1] = 'x';
+    return 1;
 }
 
 static int entry_column(struct volume *v)
@@ -407,6 +441,7 @@ static const struct damage {
                {"trailer column", 18, trailer_column},
                {"trailer spelling", 18, trailer_spelling},
                {"trailer elsewhere", 18, trailer_elsewhere},
+               {"mixed", 18, mixed},
                {"directory moved", 19, directory_moved},
                {"entry code", 19, entry_code},
                {"entry column", 19, entry_column},
@@ -420,9 +455,12 @@ enum { DAMAGES = sizeof damages / sizeof *damages };
 static unsigned long done[DAMAGES];
 
 // How often each operation came to each end; the volume itself was in order where an append was refused.
-enum volume_operation { EMPTY, LINES, LINE_AT, APPEND, VOLUME_OPERATIONS };
-static const char *const volume_names[VOLUME_OPERATIONS] = {"volume empty", "volume lines", "volume line", "volume append"};
-static unsigned long came[VOLUME_OPERATIONS][22], by_header[22], filled, one_too_many;
+enum volume_operation { EMPTY, LINES, LINE_AT, APPEND, WIDEN, NARROW, VOLUME_OPERATIONS };
+static const char *const volume_names[VOLUME_OPERATIONS] = {"volume empty",  "volume lines", "volume line",
+                                                            "volume append", "volume widen", "volume narrow"};
+static unsigned long came[VOLUME_OPERATIONS][22], by_header[22], filled[2], one_too_many[2];
+// Wide volumes that the old form cannot hold: for their cards, and for those of a header alone.
+static unsigned long too_many_cards, too_long_header;
 
 static void hold_empty(struct volume *v, struct volume *is, unsigned turn)
 {
@@ -493,15 +531,15 @@ static void hold_season(const struct volume *v, const struct season *s, unsigned
 static size_t header_to_append(uint8_t *to, const struct season *s)
 {
     size_t left = s->shape->most - s->total - s->lines - 2;
-    switch (below(16)) {
+    if (left < 800 && percent(60))
+        return good_header(to, left + below(2)) * CARD_SIZE;
+    switch (below(14)) {
     case 0: return 0;
     case 1: return good_header(to, 0) * CARD_SIZE - 1 - below(79);
     case 2: return good_header(to, s->shape->largest + below(2)) * CARD_SIZE;
-    case 3: return good_header(to, left < s->shape->largest ? left : 0) * CARD_SIZE;
-    case 4: return good_header(to, left < s->shape->largest ? left + 1 : 0) * CARD_SIZE;
-    case 5:
-    case 6:
-    case 7: return damaged_header(to) * CARD_SIZE;
+    case 3:
+    case 4:
+    case 5: return damaged_header(to) * CARD_SIZE;
     default: return good_header(to, 0) * CARD_SIZE;
     }
 }
@@ -519,7 +557,7 @@ static size_t lent_about(size_t cards, size_t at_least)
 static struct refusal hold_append(struct volume *v, struct season *s, int good, unsigned turn)
 {
     static struct volume before, is, laid;
-    static uint8_t header[MOST_SEASON * CARD_SIZE];
+    static uint8_t header[MOST_HEADER * CARD_SIZE];
     size_t size = header_to_append(header, s), cards = 0, wanted = v->cards + size / CARD_SIZE + 1;
     if (v->lent == v->cards * CARD_SIZE)
         v->lent = lent_about(wanted, v->lent);
@@ -539,8 +577,8 @@ static struct refusal hold_append(struct volume *v, struct season *s, int good, 
     uint32_t should = own.number ? own.number : wanted > s->shape->most || wanted > v->lent / CARD_SIZE ? 20 : 0;
     if (r.number != should)
         die("an append is not refused as it has to be", turn);
-    filled += r.number == 0 && cards == s->shape->most;
-    one_too_many += r.number == 20 && wanted == s->shape->most + 1 && wanted <= v->lent / CARD_SIZE;
+    filled[s->shape - shapes] += r.number == 0 && cards == s->shape->most;
+    one_too_many[s->shape - shapes] += r.number == 20 && wanted == s->shape->most + 1 && wanted <= v->lent / CARD_SIZE;
     if (r.number)
         return r;
     add_line(s, header, size / CARD_SIZE);
@@ -552,6 +590,61 @@ static struct refusal hold_append(struct volume *v, struct season *s, int good, 
     v->first = laid.first;
     v->entries = laid.entries;
     return r;
+}
+
+// One conversion of a copy by both. It is in `is` afterwards.
+static struct refusal hold_conversion(enum volume_operation op, const struct volume *v, struct volume *is, unsigned turn)
+{
+    static struct volume should;
+    struct input in = {volume_names[op], v->at, v->lent, v->at, 0, {v->stated, turn}};
+    struct lent l = lend(turn);
+    size_t cards = 0;
+    memcpy(should.at, v->at, v->lent + BEHIND);
+    memcpy(is->at, v->at, v->lent + BEHIND);
+    struct refusal r = (op == WIDEN ? widen_volume : narrow_volume)(should.at, v->lent, v->stated, &cards);
+    int64_t said = (op == WIDEN ? p294_volume_widen : p294_volume_narrow)(is->at, v->lent, v->stated, l.numbers, l.room);
+    hold(&in, r.number ? refused(r) : (struct expected){(int64_t)cards, {0, 0, 0}}, said, &l);
+    hold_bytes(&in, should.at, is->at, v->lent + BEHIND);
+    came[op][r.number]++;
+    return r;
+}
+
+// Whether the old form can hold a season; why not is counted.
+static int is_old(const struct season *s)
+{
+    int cards = s->total + s->lines + 1 > shapes[0].most, header = 0;
+    for (size_t k = 0; k < s->lines; k++)
+        header |= s->cards[k] > shapes[0].largest;
+    too_many_cards += cards;
+    too_long_header += header && !cards;
+    return !cards && !header;
+}
+
+// A season's volume brought to both forms: as it is laid in that form, and back again to the very bytes.
+static void hold_forms(const struct volume *v, const struct season *s, unsigned turn)
+{
+    static struct volume is, laid, back;
+    static struct season in_form;
+    struct refusal own = first_refusal(s);
+    for (int to = 0; to < 2; to++) {
+        struct refusal r = hold_conversion(to ? WIDEN : NARROW, v, &is, turn);
+        if (r.number != (own.number ? own.number : to || is_old(s) ? 0 : 21))
+            die("a conversion is not refused as it has to be", turn);
+        if (r.number)
+            continue;
+        in_form = *s;
+        in_form.shape = &shapes[to];
+        memcpy(laid.at, v->at, v->lent + BEHIND);
+        lay(&laid, &in_form);
+        if (memcmp(laid.at, is.at, v->lent + BEHIND) != 0)
+            die("a conversion is not the volume in that form", turn);
+        is.lent = v->lent;
+        is.stated = v->stated;
+        if (v->shape == shapes && to && hold_conversion(NARROW, &is, &back, turn).number)
+            die("a widened volume is not brought back", turn);
+        if (v->shape == shapes && to && memcmp(v->at, back.at, v->lent + BEHIND) != 0)
+            die("a widened volume comes back with other bytes", turn);
+    }
 }
 
 // A volume that was damaged once: by its number; damaged again, whatever comes.
@@ -568,6 +661,8 @@ static void hold_damaged(struct volume *v, const struct season *s, unsigned turn
     if (r.number != damages[n].number || r.card || r.column)
         die(damages[n].name, turn);
     hold_line(v, percent(50) ? 1 : no_place(s->lines), turn, &line);
+    static struct volume is;
+    hold_conversion(turn % 2 ? WIDEN : NARROW, v, &is, turn);
     copy = *s;
     hold_append(v, &copy, 0, turn);
     if (v->stated == v->cards && damages[below(DAMAGES)].done(v))
@@ -579,7 +674,9 @@ static int volume_histogram(void)
     static const uint8_t needed[VOLUME_OPERATIONS][20] = {{0, 20},
                                                           {0, 3, 4, 5, 6, 7, 8, 9, 10, 11, 18, 19},
                                                           {0, 3, 4, 5, 6, 7, 8, 9, 10, 11, 13, 18, 19},
-                                                          {0, 1, 2, 3, 4, 5, 6, 7, 8, 9, 10, 11, 18, 19, 20}};
+                                                          {0, 1, 2, 3, 4, 5, 6, 7, 8, 9, 10, 11, 18, 19, 20},
+                                                          {0, 3, 4, 5, 6, 7, 8, 9, 10, 11, 18, 19},
+                                                          {0, 3, 4, 5, 6, 7, 8, 9, 10, 11, 18, 19, 21}};
     for (int op = 0; op < VOLUME_OPERATIONS; op++) {
         printf("%s:", volume_names[op]);
         for (int n = 0; n < 22; n++)
@@ -593,9 +690,15 @@ static int volume_histogram(void)
         demand((unsigned)by_header[n], "the appended header", n, 0);
     for (int n = 0; n < DAMAGES; n++)
         demand((unsigned)done[n], damages[n].name, (int)damages[n].number, 0);
-    printf("volumes filled to the last card %lu, one card too many %lu\n", filled, one_too_many);
-    demand((unsigned)filled, "a full volume", 0, 0);
-    demand((unsigned)one_too_many, "a card too many", 20, 0);
+    for (int form = 0; form < 2; form++) {
+        printf("volumes of form %d filled to the last card %lu, one card too many %lu\n", form, filled[form], one_too_many[form]);
+        demand((unsigned)filled[form], "a full volume", form, 0);
+        demand((unsigned)one_too_many[form], "a card too many", form, 20);
+    }
+    printf("wide volumes of too many cards for the old form %lu, with too long a header %lu\n", too_many_cards, too_long_header);
+    demand((unsigned)too_many_cards, "wide and of too many cards", 21, 0);
+    if (MOST_CARDS > shapes[0].largest)
+        demand((unsigned)too_long_header, "wide and with too long a header", 21, 0);
     return missing;
 }
 
@@ -605,13 +708,15 @@ int compare_volumes(uint64_t seed, unsigned long wanted)
     static struct volume v, is;
     state = seed;
     for (unsigned turn = 0; turn < wanted; turn++) {
-        fill(&v, turn);
-        fill(&is, turn);
+        int large = turn % 60 != 7 ? AS_COMES : percent(30) ? TO_THE_LAST : TO_SOME;
+        make_season(&s, &shapes[large || percent(40)], percent(large ? 10 : 40), large);
+        fill(&v, turn, s.total > 1000 ? BUFFER : SMALL_BUFFER);
+        fill(&is, turn, SMALL_BUFFER);
         hold_empty(&v, &is, turn);
-        make_season(&s, percent(40));
         lay(&v, &s);
-        v.lent = v.cards * CARD_SIZE + (percent(50) ? 0 : below(5 * CARD_SIZE));
+        v.lent = v.cards * CARD_SIZE + (large || percent(50) ? 0 : below(5 * CARD_SIZE));
         hold_season(&v, &s, turn);
+        hold_forms(&v, &s, turn);
         int good = first_refusal(&s).number == 0;
         for (unsigned n = below(4); n && s.lines < MOST_LINES; n--) {
             hold_append(&v, &s, good, turn);
