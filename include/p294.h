@@ -236,6 +236,12 @@ int64_t p294_heading(const uint8_t *header, size_t length, const uint8_t *serial
 int64_t p294_volume_widen(uint8_t *buffer, size_t length, size_t cards, int64_t *numbers, size_t room);
 int64_t p294_volume_narrow(uint8_t *buffer, size_t length, size_t cards, int64_t *numbers, size_t room);
 
+/* Drops superseded lines within the volume's own cards: of headers with the same line name and sequence number only the last is
+ * kept. Names are compared without trailing blanks, sequence numbers by value; blank is equal to blank only. said is the new number
+ * of cards. The freed cards behind the new trailer, up to and with the old one, are blank; nothing behind them is written. The
+ * volume keeps its form. Refused as above. */
+int64_t p294_volume_compact(uint8_t *buffer, size_t length, size_t cards, int64_t *numbers, size_t room);
+
 #ifdef __cplusplus
 }
 #endif

@@ -1,4 +1,4 @@
-// A season's volume, a second time. The paper: requests No. 8 and No. 9.
+// A season's volume, a second time. The paper: requests No. 8 to No. 10.
 #include "volume.h"
 #include "header.h"
 
@@ -284,4 +284,59 @@ struct refusal widen_volume(uint8_t *buffer, size_t size, size_t stated, size_t 
 struct refusal narrow_volume(uint8_t *buffer, size_t size, size_t stated, size_t *cards)
 {
     return convert(buffer, size, stated, &forms[OLD], cards);
+}
+
+// The most lines: a header that is accepted has nine cards or more.
+enum { MOST_LINES = MOST_WIDE / 9 };
+
+// Whether two first cards have the same name and sequence number, as fields are read.
+static int is_same_line(const uint8_t *one, const uint8_t *other)
+{
+    struct value a, b;
+    const uint8_t *name, *other_name;
+    size_t size = read_text(one, CARD_SIZE, 1, 0, &name), other_size = read_text(other, CARD_SIZE, 1, 0, &other_name);
+    read_field(one, CARD_SIZE, 2, 0, &a);
+    read_field(other, CARD_SIZE, 2, 0, &b);
+    return size == other_size && (size == 0 || memcmp(name, other_name, size) == 0) && a.kind == b.kind &&
+           (a.kind == VALUE_ABSENT || a.units == b.units);
+}
+
+// The lines that no later one supersedes.
+static size_t keep_last(const uint8_t *volume, const struct directory *l, struct line *kept)
+{
+    size_t count = 0;
+    for (size_t place = 1; place <= l->entries; place++) {
+        struct line line, later;
+        int superseded = 0;
+        read_entry(volume, l, place, &line);
+        for (size_t next = place + 1; next <= l->entries && !superseded; next++) {
+            read_entry(volume, l, next, &later);
+            superseded = is_same_line(card_in(volume, line.first), card_in(volume, later.first));
+        }
+        if (!superseded)
+            kept[count++] = line;
+    }
+    return count;
+}
+
+struct refusal compact_volume(uint8_t *buffer, size_t size, size_t stated, size_t *cards)
+{
+    struct directory l;
+    struct line kept[MOST_LINES];
+    size_t next = 1;
+    struct refusal r = judge_volume(buffer, size, stated, &l);
+    if (r.number)
+        return r;
+    size_t count = keep_last(buffer, &l, kept);
+    for (size_t k = 0; k < count; k++) {
+        memmove(buffer + (next - 1) * CARD_SIZE, card_in(buffer, kept[k].first), kept[k].cards * CARD_SIZE);
+        kept[k].first = next;
+        next += kept[k].cards;
+    }
+    for (size_t k = 0; k < count; k++)
+        write_entry(buffer + (next - 1 + k) * CARD_SIZE, l.form, card_in(buffer, kept[k].first), kept[k].first, kept[k].cards);
+    *cards = next + count;
+    write_trailer(buffer + (*cards - 1) * CARD_SIZE, l.form, next, count);
+    memset(buffer + *cards * CARD_SIZE, ' ', (stated - *cards) * CARD_SIZE);
+    return none;
 }

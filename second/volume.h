@@ -25,4 +25,8 @@ struct refusal append_line(uint8_t *buffer, size_t size, size_t stated, const ui
 struct refusal widen_volume(uint8_t *buffer, size_t size, size_t stated, size_t *cards);
 struct refusal narrow_volume(uint8_t *buffer, size_t size, size_t stated, size_t *cards);
 
+// Drops, within the volume's own cards, every line that a later one with the same name and sequence number supersedes; *cards is
+// the new number of cards, and those that are free are blank.
+struct refusal compact_volume(uint8_t *buffer, size_t size, size_t stated, size_t *cards);
+
 #endif

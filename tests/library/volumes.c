@@ -107,6 +107,30 @@ static size_t cards_wanted(const struct season *s, int large)
     }
 }
 
+// Gives a header the name and sequence number of an earlier line, spelled in another way or nearly the same.
+static void rename_as(uint8_t *header, const uint8_t *earlier)
+{
+    static const char *const spellings[] = {"   1", "0001", "1   ", "  +1", " 1  ", "    ", "   0", "  -0", "   2"};
+    memcpy(header + 28, earlier + 28, 16);
+    memcpy(header + 45, percent(50) ? earlier + 45 : (const uint8_t *)spellings[below(9)], 4);
+    switch (below(8)) {
+    case 0: memset(header + 28, ' ', 16); break;
+    case 1: header[43] = header[43] == ' ' ? 'x' : ' '; break;
+    case 2: memcpy(header + 28, "Line", 4); break;
+    case 3: memcpy(header + 28, "LINE", 4); break;
+    }
+}
+
+// Whether two headers have the same name and sequence number.
+static int is_same(const uint8_t *one, const uint8_t *other)
+{
+    char a[5] = {0}, b[5] = {0};
+    memcpy(a, one + 45, 4);
+    memcpy(b, other + 45, 4);
+    int blank = strspn(a, " ") == 4, other_blank = strspn(b, " ") == 4;
+    return memcmp(one + 28, other + 28, 16) == 0 && blank == other_blank && strtol(a, NULL, 10) == strtol(b, NULL, 10);
+}
+
 // Whether a volume with so many cards more, and another directory card, keeps to the form.
 static int has_room(const struct season *s, size_t cards)
 {
@@ -122,6 +146,8 @@ static void make_season(struct season *s, const struct shape *shape, int damaged
         size_t wanted = cards_wanted(s, large);
         int bad = damaged && percent(n == 1 ? 60 : large ? 2 : 30);
         size_t cards = bad ? damaged_header(header) : wanted < MOST_HEADER ? good_header(header, wanted) : 0;
+        if (cards > 0 && s->lines > 0 && percent(60))
+            rename_as(header, line_of(s, below((unsigned)s->lines)));
         if (cards > 0 && has_room(s, cards))
             add_line(s, header, cards);
     }
@@ -455,9 +481,10 @@ enum { DAMAGES = sizeof damages / sizeof *damages };
 static unsigned long done[DAMAGES];
 
 // How often each operation came to each end; the volume itself was in order where an append was refused.
-enum volume_operation { EMPTY, LINES, LINE_AT, APPEND, WIDEN, NARROW, VOLUME_OPERATIONS };
+enum volume_operation { EMPTY, LINES, LINE_AT, APPEND, WIDEN, NARROW, COMPACT, VOLUME_OPERATIONS };
 static const char *const volume_names[VOLUME_OPERATIONS] = {"volume empty",  "volume lines", "volume line",
-                                                            "volume append", "volume widen", "volume narrow"};
+                                                            "volume append", "volume widen", "volume narrow",
+                                                            "volume compact"};
 static unsigned long came[VOLUME_OPERATIONS][22], by_header[22], filled[2], one_too_many[2];
 // Wide volumes that the old form cannot hold: for their cards, and for those of a header alone.
 static unsigned long too_many_cards, too_long_header;
@@ -592,8 +619,16 @@ static struct refusal hold_append(struct volume *v, struct season *s, int good, 
     return r;
 }
 
-// One conversion of a copy by both. It is in `is` afterwards.
-static struct refusal hold_conversion(enum volume_operation op, const struct volume *v, struct volume *is, unsigned turn)
+// What is done to a volume in its own cards, by both.
+static const struct {
+    struct refusal (*second)(uint8_t *, size_t, size_t, size_t *);
+    int64_t (*library)(uint8_t *, size_t, size_t, int64_t *, size_t);
+} changes[VOLUME_OPERATIONS] = {[WIDEN] = {widen_volume, p294_volume_widen},
+                                [NARROW] = {narrow_volume, p294_volume_narrow},
+                                [COMPACT] = {compact_volume, p294_volume_compact}};
+
+// One change of a copy by both. It is in `is` afterwards.
+static struct refusal hold_change(enum volume_operation op, const struct volume *v, struct volume *is, unsigned turn)
 {
     static struct volume should;
     struct input in = {volume_names[op], v->at, v->lent, v->at, 0, {v->stated, turn}};
@@ -601,11 +636,13 @@ static struct refusal hold_conversion(enum volume_operation op, const struct vol
     size_t cards = 0;
     memcpy(should.at, v->at, v->lent + BEHIND);
     memcpy(is->at, v->at, v->lent + BEHIND);
-    struct refusal r = (op == WIDEN ? widen_volume : narrow_volume)(should.at, v->lent, v->stated, &cards);
-    int64_t said = (op == WIDEN ? p294_volume_widen : p294_volume_narrow)(is->at, v->lent, v->stated, l.numbers, l.room);
+    struct refusal r = changes[op].second(should.at, v->lent, v->stated, &cards);
+    int64_t said = changes[op].library(is->at, v->lent, v->stated, l.numbers, l.room);
     hold(&in, r.number ? refused(r) : (struct expected){(int64_t)cards, {0, 0, 0}}, said, &l);
     hold_bytes(&in, should.at, is->at, v->lent + BEHIND);
     came[op][r.number]++;
+    is->lent = v->lent;
+    is->cards = is->stated = cards;
     return r;
 }
 
@@ -627,7 +664,7 @@ static void hold_forms(const struct volume *v, const struct season *s, unsigned 
     static struct season in_form;
     struct refusal own = first_refusal(s);
     for (int to = 0; to < 2; to++) {
-        struct refusal r = hold_conversion(to ? WIDEN : NARROW, v, &is, turn);
+        struct refusal r = hold_change(to ? WIDEN : NARROW, v, &is, turn);
         if (r.number != (own.number ? own.number : to || is_old(s) ? 0 : 21))
             die("a conversion is not refused as it has to be", turn);
         if (r.number)
@@ -638,13 +675,47 @@ static void hold_forms(const struct volume *v, const struct season *s, unsigned 
         lay(&laid, &in_form);
         if (memcmp(laid.at, is.at, v->lent + BEHIND) != 0)
             die("a conversion is not the volume in that form", turn);
-        is.lent = v->lent;
-        is.stated = v->stated;
-        if (v->shape == shapes && to && hold_conversion(NARROW, &is, &back, turn).number)
+        if (v->shape == shapes && to && hold_change(NARROW, &is, &back, turn).number)
             die("a widened volume is not brought back", turn);
         if (v->shape == shapes && to && memcmp(v->at, back.at, v->lent + BEHIND) != 0)
             die("a widened volume comes back with other bytes", turn);
     }
+}
+
+// Volumes that compaction left as they were, and those that it made shorter.
+static unsigned long as_before, shortened;
+
+// A season's volume compacted: that of the lines that no later one is the same as, blank cards behind it; once more it stays.
+static void hold_compacted(const struct volume *v, const struct season *s, unsigned turn)
+{
+    static struct volume is, laid, again;
+    static struct season kept;
+    struct refusal own = first_refusal(s), r = hold_change(COMPACT, v, &is, turn);
+    if (r.number != own.number)
+        die("a compaction is not refused as it has to be", turn);
+    if (r.number)
+        return;
+    kept.shape = s->shape;
+    kept.lines = kept.total = 0;
+    for (size_t k = 0; k < s->lines; k++) {
+        int superseded = 0;
+        for (size_t later = k + 1; later < s->lines; later++)
+            superseded |= is_same(line_of(s, k), line_of(s, later));
+        if (!superseded)
+            add_line(&kept, line_of(s, k), s->cards[k]);
+    }
+    memcpy(laid.at, v->at, v->lent + BEHIND);
+    memset(laid.at, ' ', v->cards * CARD_SIZE);
+    lay(&laid, &kept);
+    if (is.cards != laid.cards || memcmp(laid.at, is.at, v->lent + BEHIND) != 0)
+        die("a compaction is not the volume of the lines that are kept", turn);
+    *(kept.lines == s->lines ? &as_before : &shortened) += 1;
+    if (hold_change(COMPACT, &is, &again, turn).number || again.cards != is.cards || memcmp(is.at, again.at, v->lent + BEHIND) != 0)
+        die("compacting twice is not compacting once", turn);
+    is.shape = kept.shape;
+    is.first = laid.first;
+    is.entries = laid.entries;
+    hold_append(&is, &kept, 1, turn);
 }
 
 // A volume that was damaged once: by its number; damaged again, whatever comes.
@@ -662,7 +733,7 @@ static void hold_damaged(struct volume *v, const struct season *s, unsigned turn
         die(damages[n].name, turn);
     hold_line(v, percent(50) ? 1 : no_place(s->lines), turn, &line);
     static struct volume is;
-    hold_conversion(turn % 2 ? WIDEN : NARROW, v, &is, turn);
+    hold_change(WIDEN + turn % 3, v, &is, turn);
     copy = *s;
     hold_append(v, &copy, 0, turn);
     if (v->stated == v->cards && damages[below(DAMAGES)].done(v))
@@ -676,7 +747,8 @@ static int volume_histogram(void)
                                                           {0, 3, 4, 5, 6, 7, 8, 9, 10, 11, 13, 18, 19},
                                                           {0, 1, 2, 3, 4, 5, 6, 7, 8, 9, 10, 11, 18, 19, 20},
                                                           {0, 3, 4, 5, 6, 7, 8, 9, 10, 11, 18, 19},
-                                                          {0, 3, 4, 5, 6, 7, 8, 9, 10, 11, 18, 19, 21}};
+                                                          {0, 3, 4, 5, 6, 7, 8, 9, 10, 11, 18, 19, 21},
+                                                          {0, 3, 4, 5, 6, 7, 8, 9, 10, 11, 18, 19}};
     for (int op = 0; op < VOLUME_OPERATIONS; op++) {
         printf("%s:", volume_names[op]);
         for (int n = 0; n < 22; n++)
@@ -696,6 +768,9 @@ static int volume_histogram(void)
         demand((unsigned)one_too_many[form], "a card too many", form, 20);
     }
     printf("wide volumes of too many cards for the old form %lu, with too long a header %lu\n", too_many_cards, too_long_header);
+    printf("volumes compacted: %lu as before, %lu shorter\n", as_before, shortened);
+    demand((unsigned)as_before, "compacted as before", 0, 0);
+    demand((unsigned)shortened, "compacted and shorter", 0, 0);
     demand((unsigned)too_many_cards, "wide and of too many cards", 21, 0);
     if (MOST_CARDS > shapes[0].largest)
         demand((unsigned)too_long_header, "wide and with too long a header", 21, 0);
@@ -717,6 +792,7 @@ int compare_volumes(uint64_t seed, unsigned long wanted)
         v.lent = v.cards * CARD_SIZE + (large || percent(50) ? 0 : below(5 * CARD_SIZE));
         hold_season(&v, &s, turn);
         hold_forms(&v, &s, turn);
+        hold_compacted(&v, &s, turn);
         int good = first_refusal(&s).number == 0;
         for (unsigned n = below(4); n && s.lines < MOST_LINES; n--) {
             hold_append(&v, &s, good, turn);
