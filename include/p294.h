@@ -69,16 +69,16 @@ enum {
     P294_NO_ROOM = 14,      /* put: does not fit the columns; column 0 */
     P294_LINE_LENGTH = 15,  /* a line of a diskette file has more than 80 characters; the line and the place of the 81st */
     P294_LINE_END = 16,     /* CR or LF stands alone, at its line and place; or the last line has no CR LF, just past it */
-    P294_NO_OUTPUT = 17,    /* the output has too little room; card and column 0 */
-    P294_NO_TRAILER = 18,   /* a volume's stated number of cards, its trailer, or what that points at; card and column 0 */
-    P294_NO_DIRECTORY = 19, /* a volume's directory; card and column 0 */
-    P294_NO_CARDS_LEFT = 20,,/* a volume would have more cards than it may or than the buffer holds; card and column 0 */
-    P294_DATUM_TWICE = 22,   /* routes: a datum is defined more than once; card and column 0 */
-    P294_NO_COMPASS = 23,     /* heading: the serial is not defined exactly once; card and column 0, as of all that follow */
+    P294_NO_OUTPUT = 17,    /* the output has too little room; card and column 0, as of all that follow */
+    P294_NO_TRAILER = 18,   /* a volume's stated number of cards, its trailer, or what that points at */
+    P294_NO_DIRECTORY = 19, /* a volume's directory */
+    P294_NO_CARDS_LEFT = 20,  /* a volume would have more cards than it may or than the buffer holds */
+    P294_NOT_OLD = 21,        /* a wide volume that the old form cannot hold */
+    P294_DATUM_TWICE = 22,    /* routes: a datum is defined more than once */
+    P294_NO_COMPASS = 23,     /* heading: the serial is not defined exactly once */
     P294_NO_CORRECTIONS = 24, /* heading: there is not exactly one H23@0 card for the serial */
     P294_NO_DIRECTION = 25,   /* heading: a direction outside 0..360, or the card lists one twice (0 beside 360 counts) */
     P294_NO_READING = 26      /* heading: a raw reading below 0 or not below 360, or with more than 11 places */
-    P294_NOT_OLD = 21       /* a wide volume that the old form cannot hold; card and column 0 */
 };
 
 /* Kinds of value, with the numbers that go with each. */

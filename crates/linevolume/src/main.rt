@@ -12,6 +12,11 @@ use libc::STDOUT_FILENO;
 use volume_check::Counted;
 use volume_check::Found;
 use volume_edit::Volume;
+use volume_edit::compact;
+use volume_edit::convert;
+
+ghost use mathlib.Core.Path.{_≡_};
+ghost use lib.ListN.{length};
 
 // What can be asked for.
 enum Wanted {
@@ -19,6 +24,9 @@ enum Wanted {
     List,
     Get,
     Append,
+    Widen,
+    Narrow,
+    Compact,
     Other,
 }
 
@@ -29,12 +37,26 @@ enum Taken {
 }
 
 // The longest header and the longest volume, and one card more of each to notice a longer one.
-const HEADER: usize = 801 * CARD;
+const HEADER: usize = 4097 * CARD;
 
-const VOLUME: usize = 1000 * CARD;
+const VOLUME: usize = 20001 * CARD;
 
 // The longest argument.
 const WORD: usize = 24;
+
+// Room for a volume: in a function of its own, since the check of each function goes over the arrays that it makes.
+fn room() -> [u8; VOLUME]
+    ensures { λ r. ⌜ 1600080 ≡ length r ⌝ }
+{
+    [0; VOLUME]
+}
+
+// Room for a header.
+fn header_room() -> [u8; HEADER]
+    ensures { λ r. ⌜ 327760 ≡ length r ⌝ }
+{
+    [0; HEADER]
+}
 
 // What an argument asks for.
 fn wanted_by(word: &[u8]) -> Wanted {
@@ -49,6 +71,15 @@ fn wanted_by(word: &[u8]) -> Wanted {
     }
     if base_lists::same(word, b"append") {
         return Wanted::Append;
+    }
+    if reading::same(word, b"widen") {
+        return Wanted::Widen;
+    }
+    if reading::same(word, b"narrow") {
+        return Wanted::Narrow;
+    }
+    if reading::same(word, b"compact") {
+        return Wanted::Compact;
     }
     Wanted::Other
 }
@@ -117,7 +148,7 @@ fn list_lines(volume: &[u8], cards: usize) {
 }
 
 fn list() {
-    let mut volume = [0u8; VOLUME];
+    let mut volume = room();
     let taken = take(&mut volume);
     match taken {
         Taken::Cards(n) => list_lines(&volume, n),
@@ -135,7 +166,7 @@ fn get_line(volume: &[u8], cards: usize, place: usize) {
 }
 
 fn get(place: usize) {
-    let mut volume = [0u8; VOLUME];
+    let mut volume = room();
     let taken = take(&mut volume);
     match taken {
         Taken::Cards(n) => get_line(&volume, n, place),
@@ -163,7 +194,7 @@ fn append_line(volume: &mut [u8], cards: usize, header: &[u8]) {
 
 // Reads the volume behind the header.
 fn append_to(header: &[u8]) {
-    let mut volume = [0u8; VOLUME];
+    let mut volume = room();
     let taken = take(&mut volume);
     match taken {
         Taken::Cards(n) => append_line(&mut volume, n, header),
@@ -182,12 +213,59 @@ fn append_from(header: &mut [u8]) {
 
 // Appends a header of so many bytes, which stand at the front of the input.
 fn append(size: usize) {
-    let mut header = [0u8; HEADER];
+    let mut header = header_room();
     if HEADER < size {
         words::say(b"linevolume: the header is too long\n");
         return;
     }
     append_from(&mut header[..size]);
+}
+
+// Writes what was made of a volume.
+fn write_changed(volume: &[u8], changed: Volume) {
+    match changed {
+        Volume::Cards(n) => write(front(volume, n)),
+        Volume::Refused(r) => words::tell(r, Whose::Volume),
+    }
+}
+
+// Brings a volume to the wide form.
+fn widen() {
+    let mut volume = room();
+    let taken = take(&mut volume);
+    match taken {
+        Taken::Cards(n) => {
+            let changed = convert::widen(&mut volume, n);
+            write_changed(&volume, changed);
+        }
+        Taken::Nothing => words::say(b""),
+    }
+}
+
+// Brings a volume to the old form.
+fn narrow() {
+    let mut volume = room();
+    let taken = take(&mut volume);
+    match taken {
+        Taken::Cards(n) => {
+            let changed = convert::narrow(&mut volume, n);
+            write_changed(&volume, changed);
+        }
+        Taken::Nothing => words::say(b""),
+    }
+}
+
+// Drops superseded lines.
+fn compact() {
+    let mut volume = room();
+    let taken = take(&mut volume);
+    match taken {
+        Taken::Cards(n) => {
+            let changed = compact::compact(&mut volume, n);
+            write_changed(&volume, changed);
+        }
+        Taken::Nothing => words::say(b""),
+    }
 }
 
 // Does what is asked for, with the number that goes with it.
@@ -197,8 +275,11 @@ fn run(wanted: Wanted, number: usize) {
         Wanted::List => list(),
         Wanted::Get => get(number),
         Wanted::Append => append(number),
+        Wanted::Widen => widen(),
+        Wanted::Narrow => narrow(),
+        Wanted::Compact => compact(),
         Wanted::Other => words::say(
-            b"linevolume: usage: linevolume new|list|get PLACE|append SIZE\n",
+            b"linevolume: usage: linevolume new|list|get PLACE|append SIZE|widen|narrow|compact\n",
         ),
     }
 }

@@ -2,6 +2,7 @@
 use base_refusal::NO_CARDS_LEFT;
 use base_refusal::NO_DIRECTORY;
 use base_refusal::NO_SUCH;
+use base_refusal::NOT_OLD;
 use base_refusal::NO_TRAILER;
 use base_refusal::Refusal;
 use libc::STDERR_FILENO;
@@ -40,7 +41,8 @@ fn say_why(number: usize, whose: Whose) {
             b"this is no volume: its last card is no trailer that points at its directory.\n",
         ),
         NO_DIRECTORY => say(b"the volume's directory does not agree with its headers.\n"),
-        NO_CARDS_LEFT => say(b"the volume would have more than 999 cards.\n"),
+        NO_CARDS_LEFT => say(b"the volume would have more cards than it may.\n"),
+        NOT_OLD => say(b"the old form cannot hold this volume.\n"),
         _ => say_header(whose),
     }
 }
