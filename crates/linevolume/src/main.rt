@@ -72,13 +72,13 @@ fn wanted_by(word: &[u8]) -> Wanted {
     if base_lists::same(word, b"append") {
         return Wanted::Append;
     }
-    if reading::same(word, b"widen") {
+    if base_lists::same(word, b"widen") {
         return Wanted::Widen;
     }
-    if reading::same(word, b"narrow") {
+    if base_lists::same(word, b"narrow") {
         return Wanted::Narrow;
     }
-    if reading::same(word, b"compact") {
+    if base_lists::same(word, b"compact") {
         return Wanted::Compact;
     }
     Wanted::Other
