@@ -14,7 +14,6 @@ use volume_check::Found;
 use volume_edit::Volume;
 use volume_edit::compact;
 use volume_edit::convert;
-
 ghost use mathlib.Core.Path.{_≡_};
 ghost use lib.ListN.{length};
 

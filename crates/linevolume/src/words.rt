@@ -2,8 +2,8 @@
 use base_refusal::NO_CARDS_LEFT;
 use base_refusal::NO_DIRECTORY;
 use base_refusal::NO_SUCH;
-use base_refusal::NOT_OLD;
 use base_refusal::NO_TRAILER;
+use base_refusal::NOT_OLD;
 use base_refusal::Refusal;
 use libc::STDERR_FILENO;
 
