@@ -518,7 +518,7 @@ static void print_instructions(void)
     void (*runners[])(struct row *) = {by_library, by_second, by_yardstick};
     printf("\nInstructions a card.\n\n| what | library | second | yardstick |\n|---|---:|---:|---:|\n");
     for (struct row *r = rows; r < rows + count; r++) {
-        if (r->operation != CHECK || is_small(r) || strcmp(r->name, grown[CROWDED].name) == 0)
+        if (r->operation != CHECK || of_other_size(r) || strcmp(r->name, grown[CROWDED].name) == 0)
             continue;
         printf("| %s |", r->name);
         for (int i = 0; i < PASS; i++) {
