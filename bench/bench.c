@@ -523,7 +523,7 @@ static void print_instructions(void)
         printf("| %s |", r->name);
         for (int i = 0; i < PASS; i++) {
             long steps = steps_of(make_check, (void *[]){r, &runners[i]});
-            printf(steps < 0 ? " not counted |" : " %ld |", steps / MOST_CARDS);
+            printf(steps < 0 ? " not counted |" : " %ld |", steps / FEW_CARDS);
         }
         printf("\n");
         fflush(stdout);
