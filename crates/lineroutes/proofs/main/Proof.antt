@@ -9,8 +9,8 @@ use borrow.Author.Needs.{needs}
 use Rattle.lineroutes.proofs.main.Statement.{statement}
 use Rattle.lineroutes.proofs.main.Tie as tie
 
-within : (x : Input) (n : ℕ) → x ≡ Whole n → sizeOf x ≤ 64080 → n ≤ 64080
-within x n e h = subst (λ (i : Input). sizeOf i ≤ 64080) e h
+within : (x : Input) (n : ℕ) → x ≡ Whole n → sizeOf x ≤ 327760 → n ≤ 327760
+within x n e h = subst (λ (i : Input). sizeOf i ≤ 327760) e h
 
 slice-aggregate-read-all : tie.Need-slice-aggregate-read-all
 slice-aggregate-read-all c = search needs
