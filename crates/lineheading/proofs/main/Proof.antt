@@ -9,8 +9,11 @@ use borrow.Author.Needs.{needs}
 use Rattle.lineheading.proofs.main.Statement.{statement}
 use Rattle.lineheading.proofs.main.Tie as tie
 
-within : (x : Input) (n : ℕ) → x ≡ Whole n → sizeOf x ≤ 327760 → n ≤ 327760
-within x n e h = subst (λ (i : Input). sizeOf i ≤ 327760) e h
+within : (x : Input) (n m : ℕ) → x ≡ Whole n → sizeOf x ≤ m → n ≤ m
+within x n m e h = subst (λ (i : Input). sizeOf i ≤ m) e h
+
+room-requires : tie.Need-room-requires
+room-requires c κs = search needs
 
 slice-aggregate-read-all : tie.Need-slice-aggregate-read-all
 slice-aggregate-read-all c = search needs
@@ -23,12 +26,12 @@ enum-known-input c = search needs
 
 array-share-prefix-buf : tie.Need-array-share-prefix-buf
 array-share-prefix-buf c =
-    let q = within (c .before .before .before .before .read-all .result) (c .before .input .given .0 .0) (c .before .input .given .1) (c .before .before .before .before .read-all .ensures) in
+    let q = within (c .before .before .before .before .read-all .result) (c .before .input .given .0 .0) _ (c .before .input .given .1) (c .before .before .before .before .read-all .ensures) in
     search (needs, q)
 
 slice-aggregate-answer : tie.Need-slice-aggregate-answer
 slice-aggregate-answer c =
-    let q = within (c .before .before .before .before .before .read-all .result) (c .before .before .input .given .0 .0) (c .before .before .input .given .1) (c .before .before .before .before .before .read-all .ensures) in
+    let q = within (c .before .before .before .before .before .read-all .result) (c .before .before .input .given .0 .0) _ (c .before .before .input .given .1) (c .before .before .before .before .before .read-all .ensures) in
     sym (length-take-le _ _ (search (needs, q)))
 
 answer-requires : tie.Need-answer-requires
@@ -53,6 +56,7 @@ pub main-spec : {M : Type 1} → statement M
 main-spec =
     tie.close
     (tie.spec
+    room-requires
     slice-aggregate-read-all
     read-all-requires
     enum-known-input

@@ -9,8 +9,11 @@ use borrow.Author.Needs.{needs}
 use Rattle.lineroutes.proofs.main.Statement.{statement}
 use Rattle.lineroutes.proofs.main.Tie as tie
 
-within : (x : Input) (n : ℕ) → x ≡ Whole n → sizeOf x ≤ 327760 → n ≤ 327760
-within x n e h = subst (λ (i : Input). sizeOf i ≤ 327760) e h
+within : (x : Input) (n m : ℕ) → x ≡ Whole n → sizeOf x ≤ m → n ≤ m
+within x n m e h = subst (λ (i : Input). sizeOf i ≤ m) e h
+
+room-requires : tie.Need-room-requires
+room-requires c κs = search needs
 
 slice-aggregate-read-all : tie.Need-slice-aggregate-read-all
 slice-aggregate-read-all c = search needs
@@ -24,13 +27,13 @@ enum-known-input c = search needs
 array-share-prefix-buf : tie.Need-array-share-prefix-buf
 array-share-prefix-buf c =
     let read = c .before .before .before .before .read-all in
-    let q = within (read .result) (c .before .input .given .0 .0) (c .before .input .given .1) (read .ensures) in
+    let q = within (read .result) (c .before .input .given .0 .0) _ (c .before .input .given .1) (read .ensures) in
     search (needs, q)
 
 slice-aggregate-reply : tie.Need-slice-aggregate-reply
 slice-aggregate-reply c =
     let read = c .before .before .before .before .before .read-all in
-    let q = within (read .result) (c .before .before .input .given .0 .0) (c .before .before .input .given .1) (read .ensures) in
+    let q = within (read .result) (c .before .before .input .given .0 .0) _ (c .before .before .input .given .1) (read .ensures) in
     sym (length-take-le _ _ (search (needs, q)))
 
 reply-requires : tie.Need-reply-requires
@@ -55,6 +58,7 @@ pub main-spec : {M : Type 1} → statement M
 main-spec =
     tie.close
     (tie.spec
+    room-requires
     slice-aggregate-read-all
     read-all-requires
     enum-known-input

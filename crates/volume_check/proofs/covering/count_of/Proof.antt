@@ -8,7 +8,7 @@ use Rattle.volume_check.proofs.covering.count_of.Reads as reads
 use Rattle.volume_check.proofs.covering.count_of.Lts as lts
 use Rattle.volume_form.proofs.building.entry_card.Reads as entry-card-reads
 use Rattle.volume_form.proofs.reading.count_on.Reads as count-on-reads
-use Rattle.volume_form.proofs.reading.same.Reads as same-reads
+use Rattle.base_lists.proofs.same.Reads as same-reads
 
 -- src/lib.rt:77:9
 count-on-requires : tie.Need-count-on-requires

@@ -12,7 +12,7 @@ use Rattle.volume_check.proofs.covering.is_mixed.Tie as tie
 use Rattle.volume_check.proofs.covering.is_mixed.Reads as reads
 use Rattle.volume_check.proofs.covering.is_mixed.Lts as lts
 use Rattle.volume_form.proofs.other_code.Reads as other-code-reads
-use Rattle.volume_form.proofs.reading.same.Reads as same-reads
+use Rattle.base_lists.proofs.same.Reads as same-reads
 
 abbrev Inv-loop : tie.InvT-loop
 Inv-loop directory other count i₀ i = (i ≤ length directory / 80) × (mixed other directory (length directory / 80) ≡ mixed other (drop (80 * i) directory) (length directory / 80 - i))

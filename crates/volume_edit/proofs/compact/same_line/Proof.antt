@@ -7,7 +7,7 @@ use Rattle.volume_edit.proofs.compact.same_line.Reads as reads
 use Rattle.volume_edit.proofs.compact.same_line.Lts as lts
 use Rattle.value_text.proofs.text.stretch.Reads as stretch-reads
 use Rattle.volume_edit.proofs.compact.same_number.Reads as same-number-reads
-use Rattle.volume_form.proofs.reading.same.Reads as same-reads
+use Rattle.base_lists.proofs.same.Reads as same-reads
 
 -- src/compact.rt:79:30
 sub-stretch : tie.Need-sub-stretch
