@@ -10,9 +10,12 @@ int complained;
 static const char *words[MOST_WORDS];
 static size_t word_count;
 
-/* The sample that is tried, or 0; where it is read next, and where its answer is compared next, or 0 once it differs. */
+/* The sample that is tried, or 0, and where its answer is compared next, or 0 once it differs. */
 static const struct sample *tried;
-static const char *next_input, *next_answer;
+static const char *next_answer;
+
+/* What is left of the bytes that are read before a file. */
+static const char *next_input, *input_end;
 
 long kernel(long number, long first, long second, long third)
 {
@@ -45,10 +48,10 @@ static ssize_t noted(long answer)
     return -1;
 }
 
-/* Hands out as much of the tried sample as there is room for. */
-static ssize_t read_sample(void *to, size_t size)
+/* Hands out as much of the first bytes as there is room for. */
+static ssize_t read_left(void *to, size_t size)
 {
-    size_t left = (size_t)(tried->input_end - next_input);
+    size_t left = (size_t)(input_end - next_input);
     size_t taken = left < size ? left : size;
     memcpy(to, next_input, taken);
     next_input += taken;
@@ -69,12 +72,18 @@ void hand(const char *word)
         words[word_count++] = word;
 }
 
+void read_first(const char *from, const char *end)
+{
+    next_input = from;
+    input_end = end;
+}
+
 void try_sample(const struct sample *sample)
 {
     tried = sample;
     if (!sample)
         return;
-    next_input = sample->input;
+    read_first(sample->input, sample->input_end);
     next_answer = sample->answer;
 }
 
@@ -85,7 +94,7 @@ int trial_holds(void)
 
 ssize_t read(int file, void *to, size_t size)
 {
-    return tried ? read_sample(to, size) : noted(kernel(CALL_READ, file, (long)to, (long)size));
+    return tried || next_input != input_end ? read_left(to, size) : noted(kernel(CALL_READ, file, (long)to, (long)size));
 }
 
 /* A proved program has no status of its own: whatever it says on standard error is a failure. */
