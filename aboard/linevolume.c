@@ -14,7 +14,7 @@ enum { STAT_SIZE = 36, STAT_MODE = 6, MODE = 07777 };
 enum { FOLDER = 3, DIGITS = 6 };
 
 /* The longest path, a header's bytes with one card more to notice a longer one, and the most links that are followed. */
-enum { PATH = 4096, HEADER = 801 * 80, LINKS = 40 };
+enum { PATH = 4096, HEADER = 4097 * 80, LINKS = 40 };
 
 static const char no_volume[] = "no such file; linevolume new makes an empty volume";
 
@@ -224,6 +224,9 @@ static const struct {
     {"list", 2, ask},
     {"get", 3, get},
     {"append", 3, append},
+    {"widen", 2, change},
+    {"narrow", 2, change},
+    {"compact", 2, change},
 };
 
 int run(char **argument)
