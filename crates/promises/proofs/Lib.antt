@@ -9,3 +9,5 @@ pub mod Routes
 pub mod Heading
 pub mod Promises
 pub mod Forms
+pub mod Converted
+pub mod Compacted

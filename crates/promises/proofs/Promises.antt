@@ -4,7 +4,7 @@
 use Prim.Native.Nat.{ℕ, _+_, _*_, _-_, _/_, _%_, _≤_, _<_, min, max}
 use mathlib.Core.Path.{_≡_, ap}
 use mathlib.Core.Bool.{Bool, true, false}
-use mathlib.Core.Logic.{_↔_}
+use mathlib.Core.Logic.{_↔_, _⊎_}
 use mathlib.Core.List.{List, [], _∷_, _++_, map, flatMap, List·Memᴰ}
 use lib.ListN.{length, getD, take, drop, replicate}
 use Rattle.base_refusal.specs.declared.Refusal.{Refusal}
@@ -107,6 +107,12 @@ use Rattle.volume_rules.specs.Latest.{latest}
 use Rattle.volume_rules.specs.SameLine.{sameLine}
 use Rattle.volume_rules.proofs.Latest.{latest-twice}
 use Rattle.promises.proofs.Forms as forms
+use Rattle.promises.specs.Rewritten.{formAnswer, formLeft, keptAnswer, keptLeft}
+use Rattle.promises.proofs.Converted as in-form
+use Rattle.promises.proofs.Compacted as compact-volumes
+use Rattle.volume_rules.specs.Judged.{headerAnswer}
+use Rattle.volume_rules.specs.Latest.{superseded}
+use Rattle.volume_rules.proofs.Promises.{total}
 use Rattle.volume_rules.proofs.Judging as volumes-judged
 use Rattle.volume_check.specs.declared.Counted.the-variants as counted
 use Rattle.volume_check.specs.declared.Found.the-variants as found-line
@@ -606,3 +612,70 @@ kept-from = forms.kept-from sameLine
 
 pub kept-once : (hs : List (List ℕ)) → latest sameLine (latest sameLine hs) ≡ latest sameLine hs
 kept-once = latest-twice sameLine
+
+-- Widening an old volume always succeeds: as many cards, the same headers, all behind the trailer as it was; narrowing then gives the
+-- old bytes. Narrowing a wide volume is a 21 exactly if it has more than 999 cards or a header of more than 800; else it succeeds, and
+-- widening then gives the wide bytes. A volume that has the form keeps its bytes.
+
+module _ (n : ℕ) (buffer : List ℕ) (hs : List (List ℕ)) (is : Holds (rowOf volume-form.Old) n buffer hs) where
+  pub widen-done : formAnswer volume-form.Wide n buffer ≡ volume.Cards n
+  widen-done = in-form.form-done volume-form.Old volume-form.Wide n buffer hs is (forms.old-held n buffer hs is)
+
+  pub widen-holds : Holds (rowOf volume-form.Wide) n (formLeft volume-form.Wide n buffer) hs
+  widen-holds = in-form.form-holds volume-form.Old volume-form.Wide n buffer hs is (forms.old-held n buffer hs is)
+
+  pub widen-behind : drop (80 * n) (formLeft volume-form.Wide n buffer) ≡ drop (80 * n) buffer
+  widen-behind = in-form.form-behind volume-form.Old volume-form.Wide n buffer hs is (forms.old-held n buffer hs is)
+
+  pub widen-back : (formAnswer volume-form.Old n (formLeft volume-form.Wide n buffer) ≡ volume.Cards n)
+      × (formLeft volume-form.Old n (formLeft volume-form.Wide n buffer) ≡ buffer)
+  widen-back = in-form.form-back volume-form.Old volume-form.Wide n buffer hs is (forms.old-held n buffer hs is)
+
+module _ (n : ℕ) (buffer : List ℕ) (hs : List (List ℕ)) (is : Holds (rowOf volume-form.Wide) n buffer hs) where
+  pub narrow-not : (formAnswer volume-form.Old n buffer ≡ volume.Refused (refusal 21 0 0)) ↔ ((999 < n) ⊎ in-form.Over 800 hs)
+  narrow-not = in-form.narrow-not n buffer hs is
+
+  pub narrow-done : (formAnswer volume-form.Old n buffer ≡ volume.Cards n) ↔ (((999 < n) ⊎ in-form.Over 800 hs) → ⊥)
+  narrow-done = in-form.narrow-done n buffer hs is
+
+  module _ (held : holds (rowOf volume-form.Old) n hs ≡ true) where
+    pub narrow-holds : Holds (rowOf volume-form.Old) n (formLeft volume-form.Old n buffer) hs
+    narrow-holds = in-form.form-holds volume-form.Wide volume-form.Old n buffer hs is held
+
+    pub narrow-back : (formAnswer volume-form.Wide n (formLeft volume-form.Old n buffer) ≡ volume.Cards n)
+        × (formLeft volume-form.Wide n (formLeft volume-form.Old n buffer) ≡ buffer)
+    narrow-back = in-form.form-back volume-form.Wide volume-form.Old n buffer hs is held
+
+pub form-kept : (form : VolumeForm) (n : ℕ) (buffer : List ℕ) (hs : List (List ℕ)) → Holds (rowOf form) n buffer hs
+    → (formAnswer form n buffer ≡ volume.Cards n) × (formLeft form n buffer ≡ buffer)
+form-kept = in-form.form-kept
+
+-- Compacting leaves an accepted volume of the lines that are kept, in the form that it had; the cards so freed are blank, and what lay
+-- past the old trailer stays. Where nothing is superseded the bytes stay, so they do the second time. The room can be appended to.
+
+module _ (form : VolumeForm) (n : ℕ) (buffer : List ℕ) (hs : List (List ℕ)) (is : Holds (rowOf form) n buffer hs) where
+  pub kept-cards : keptAnswer n buffer ≡ volume.Cards (total (latest sameLine hs))
+  kept-cards = compact-volumes.kept-cards form n buffer hs is
+
+  pub kept-holds : Holds (rowOf form) (total (latest sameLine hs)) (keptLeft n buffer) (latest sameLine hs)
+  kept-holds = compact-volumes.kept-holds form n buffer hs is
+
+  pub kept-freed : take (80 * n - 80 * total (latest sameLine hs)) (drop (80 * total (latest sameLine hs)) (keptLeft n buffer))
+      ≡ replicate (80 * n - 80 * total (latest sameLine hs)) 32
+  kept-freed = compact-volumes.kept-freed form n buffer hs is
+
+  pub kept-behind : drop (80 * n) (keptLeft n buffer) ≡ drop (80 * n) buffer
+  kept-behind = compact-volumes.kept-behind form n buffer hs is
+
+  pub kept-all : ((gs : List (List ℕ)) (h : List ℕ) (later : List (List ℕ)) → hs ≡ gs ++ (h ∷ later) → superseded sameLine h later ≡ false)
+      → (keptAnswer n buffer ≡ volume.Cards n) × (keptLeft n buffer ≡ buffer)
+  kept-all none = compact-volumes.kept-all form n buffer hs is (compact-volumes.all-kept hs none)
+
+  pub kept-twice : (keptAnswer (total (latest sameLine hs)) (keptLeft n buffer) ≡ volume.Cards (total (latest sameLine hs)))
+      × (keptLeft (total (latest sameLine hs)) (keptLeft n buffer) ≡ keptLeft n buffer)
+  kept-twice = compact-volumes.kept-twice form n buffer hs is
+
+  pub kept-append : (h : List ℕ) → headerAnswer (rowOf form) h ≡ Accepted
+      → total (latest sameLine hs) + cardsIn h + 1 ≤ rowOf form .most → total (latest sameLine hs) + cardsIn h + 1 ≤ cardsIn buffer
+      → appendAnswer (rowOf form) (total (latest sameLine hs)) (keptLeft n buffer) h ≡ volume.Cards (total (latest sameLine hs) + cardsIn h + 1)
+  kept-append = compact-volumes.kept-append form n buffer hs is

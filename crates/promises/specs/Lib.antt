@@ -4,3 +4,4 @@ pub mod Words
 pub mod Ebcdic
 pub mod Volumes
 pub mod Heading
+pub mod Rewritten
