@@ -11,3 +11,4 @@ pub mod Promises
 pub mod Forms
 pub mod Converted
 pub mod Compacted
+pub mod Examples
