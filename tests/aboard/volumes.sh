@@ -39,9 +39,23 @@ for place in $(seq 0 $((lines + 1))) 999999999999999999; do
     kept get volumes/season "$place"
 done
 equal 'the mode of the volume' 640 "$(stat -c %a "$folder/season")"
-for size in 0 80 64000 64079 64080 64081 64200; do
+head -c 330000 /dev/zero | tr '\0' C >"$room/long"
+for size in 0 80 64080 327679 327680 327681 327760 327761 330000; do
     head -c "$size" "$room/long" | tee "$scripts/long" >"$root/long"
     kept append volumes/again long
+done
+
+# Changed within its own cards: widened, a volume takes two headers of 800 cards and does not come back, but is compacted.
+for word in widen narrow widen; do
+    kept "$word" volumes/again
+done
+{ cat samples/node-214.p294; yes "$(printf '%-80s' C0001)" | tr -d '\n' | head -c $((775 * 80)) || true; } |
+    tee "$scripts/long" >"$root/long"
+equal 'the size of a header of 800 cards' 64000 "$(stat -c %s "$root/long")"
+for arguments in 'append volumes/again long' 'append volumes/again long' 'narrow volumes/again' 'compact volumes/again' \
+    'list volumes/again' 'get volumes/again 3'; do
+    # shellcheck disable=SC2086
+    kept $arguments
 done
 for size in 0 79 81 4319 4320; do
     head -c "$size" samples/season.volume | tee "$scripts/volumes/sized" >"$folder/sized"
@@ -57,6 +71,7 @@ on_both ln -s none volumes/dangling
 on_both ln -s loop volumes/loop
 on_both cp samples/season.volume "volumes/$(printf 'v%.0s' {1..250})"
 for arguments in new\ {none/season,volumes,volumes/,volumes/again,volumes/slash/,volumes/link,volumes/dangling,volumes/loop} \
+    'widen volumes/none' 'narrow volumes' 'compact volumes/link' \
     'append volumes/again none' 'append volumes samples/example.p294' 'append volumes/again samples' 'append none/a none' \
     'append volumes/dangling samples/example.p294' 'append links/to samples/example.p294' \
     'append ./volumes/../links/to samples/example.p294' "append volumes/$(printf 'v%.0s' {1..250}) samples/example.p294"; do
