@@ -2,7 +2,7 @@
  *
  * Link with libp294.a, which `rt staticlib p294` writes to target/staticlib (x86-64 Linux, System V calls). The functions
  * keep nothing between calls, allocate nothing and want only memcpy and memset of the C library, so they may be called from
- * any thread. p294_check takes up to 256,000 bytes of stack, a put up to 512, every other function up to 4,000: somewhat less was
+ * any thread. p294_check takes up to 256,000 bytes of stack, a put up to 600, every other function up to 4,000: somewhat less was
  * measured of each, and nothing is proved of the stack.
  *
  * A CARD is 80 bytes, 32 to 126 each. Columns, cards and fields count from 1; the fields of a code are numbered from left
