@@ -118,9 +118,9 @@ use Rattle.volume_check.specs.declared.Counted.the-variants as counted
 use Rattle.volume_check.specs.declared.Found.the-variants as found-line
 use Rattle.volume_check.specs.Answers.{linesOf, foundOf, lineOf}
 use Rattle.volume_edit.specs.declared.Volume.the-variants as volume
-use Rattle.volume_edit.specs.Written.{appendAnswer, emptyAnswer, leftBy}
+use Rattle.volume_edit.specs.Written.{appendAnswer, emptyAnswer, leftBy, convertAnswer, compactAnswer}
 use Rattle.volume_edit.proofs.Kept as kept-volumes
-use Rattle.promises.specs.Volumes.{volumeRows, lineRows, appendRows, emptyRows}
+use Rattle.promises.specs.Volumes.{volumeRows, lineRows, appendRows, emptyRows, convertRows}
 use Rattle.promises.proofs.Volumes as volumes
 use Rattle.crew_answer.proofs.Limits as program
 
@@ -612,6 +612,20 @@ kept-from = forms.kept-from sameLine
 
 pub kept-once : (hs : List (List ℕ)) → latest sameLine (latest sameLine hs) ≡ latest sameLine hs
 kept-once = latest-twice sameLine
+
+-- Bringing a volume into a form and compacting it judge the whole volume first, and are refused exactly by their tables.
+
+pub converting : (from to : VolumeForm) (n : ℕ) (buffer : List ℕ)
+    → Exactly (convertRows (rowOf from) (rowOf to) n buffer)
+    (λ r. convertAnswer (rowOf from) (rowOf to) n buffer ≡ volume.Refused r)
+    ((m : ℕ) × (convertAnswer (rowOf from) (rowOf to) n buffer ≡ volume.Cards m))
+converting from to n buffer = volumes.convert-exactly (rowOf from) n buffer (rowOf to)
+
+pub compacting : (form : VolumeForm) (n : ℕ) (buffer : List ℕ)
+    → Exactly (volumeRows (rowOf form) n buffer)
+    (λ r. compactAnswer (rowOf form) n buffer ≡ volume.Refused r)
+    ((m : ℕ) × (compactAnswer (rowOf form) n buffer ≡ volume.Cards m))
+compacting form = volumes.compact-exactly (rowOf form)
 
 -- Widening an old volume always succeeds: as many cards, the same headers, all behind the trailer as it was; narrowing then gives the
 -- old bytes. Narrowing a wide volume is a 21 exactly if it has more than 999 cards or a header of more than 800; else it succeeds, and

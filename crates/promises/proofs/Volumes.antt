@@ -36,9 +36,10 @@ use Rattle.volume_check.specs.declared.Found.the-variants as found
 use Rattle.volume_check.specs.Answers.{linesBy, foundBy, placed, linesOf, foundOf}
 use Rattle.volume_edit.specs.declared.Volume.{Volume}
 use Rattle.volume_edit.specs.declared.Volume.the-variants as volume
-use Rattle.volume_edit.specs.Written.{roomAnswer, appendChecked, cardsBy, appendAnswer, emptyAnswer}
+use Rattle.volume_rules.specs.Converted.{few, holds, convertChecked}
+use Rattle.volume_edit.specs.Written.{roomAnswer, appendChecked, cardsBy, appendAnswer, emptyAnswer, convertAnswer, compactAnswer}
 use Rattle.promises.specs.Header.{headerRows, inCheck}
-use Rattle.promises.specs.Volumes.{rowsIn, rowsOfAll, cardsRows, volumeRows, lineRows, appendRows, emptyRows}
+use Rattle.promises.specs.Volumes.{rowsIn, rowsOfAll, cardsRows, volumeRows, lineRows, appendRows, emptyRows, convertRows}
 use Rattle.promises.proofs.Header.{header-given}
 
 -- tests turned round
@@ -243,3 +244,40 @@ unfolding unitsIn numberSpelled plain sign rightAdjusted spelled
 spelled-as w n h =
     let k : max (size n) 1 - 0 ≡ size n = omega (arith, size-some 19 n) in
     rw (k, digits-length (size n) n, le-leb (size n) w h)
+
+two-tests : (a b : Bool) → given (row 21 0 0 a ∷ row 21 0 0 (not b) ∷ []) ≡ inCheck (unless (not a && b) 21 checked.Accepted)
+unfolding given
+two-tests true b = refl
+two-tests false true = refl
+two-tests false false = refl
+
+held-given : (g : Form) (n : ℕ) (hs : List (List ℕ))
+    → given (row 21 0 0 (ltb (g .most) n) ∷ row 21 0 0 (not (few (g .largest) hs)) ∷ []) ≡ inCheck (unless (holds g n hs) 21 checked.Accepted)
+unfolding holds
+held-given g n hs = rw (at-most n (g .most)) (two-tests (ltb (g .most) n) (few (g .largest) hs))
+
+module _ (f : Form) (n : ℕ) (buffer : List ℕ) where
+  compact-told : inVolume (compactAnswer f n buffer) ≡ given (volumeRows f n buffer)
+  unfolding compactAnswer
+  compact-told = by-cards (volumeAnswer f n buffer) _ ∙ sym (volume-rows f n buffer)
+
+  -- a volume compacted
+  pub compact-exactly : Exactly (volumeRows f n buffer) (λ r. compactAnswer f n buffer ≡ volume.Refused r) ((m : ℕ) × (compactAnswer f n buffer ≡ volume.Cards m))
+  compact-exactly =
+      exactly (volumeRows f n buffer) (inVolume (compactAnswer f n buffer)) compact-told (volume-as (compactAnswer f n buffer)) (cards-as (compactAnswer f n buffer))
+
+  convert-told : (g : Form) → inVolume (convertAnswer f g n buffer) ≡ given (convertRows f g n buffer)
+  unfolding convertAnswer convertChecked convertRows
+  convert-told g =
+      let hs : List (List ℕ) = headersOf f n (take (80 * n) buffer) in
+      let next : Checked = unless (holds g n hs) 21 checked.Accepted in
+      by-cards (andThen (volumeAnswer f n buffer) next) n
+      ∙ sym (then-given (volumeAnswer f n buffer) next)
+      ∙ ap₂ orElse (sym (volume-rows f n buffer)) (sym (held-given g n hs))
+      ∙ sym (given-append (volumeRows f n buffer) (row 21 0 0 (ltb (g .most) n) ∷ row 21 0 0 (not (few (g .largest) hs)) ∷ []))
+
+  -- a volume brought into a form
+  pub convert-exactly : (g : Form)
+      → Exactly (convertRows f g n buffer) (λ r. convertAnswer f g n buffer ≡ volume.Refused r) ((m : ℕ) × (convertAnswer f g n buffer ≡ volume.Cards m))
+  convert-exactly g =
+      exactly (convertRows f g n buffer) (inVolume (convertAnswer f g n buffer)) (convert-told g) (volume-as (convertAnswer f g n buffer)) (cards-as (convertAnswer f g n buffer))

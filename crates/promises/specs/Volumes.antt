@@ -8,6 +8,7 @@ use Rattle.card_laws.specs.exactly.Rows.{Row, row}
 use Rattle.header_check.specs.forms.Cards.{cardsIn}
 use Rattle.volume_form.specs.Rows.{Row as Form}
 use Rattle.volume_rules.specs.Sound.{points, mixed, covers, lastCard, firstOf, bodyOf, directoryOf, headersOf}
+use Rattle.volume_rules.specs.Converted.{few}
 use Rattle.promises.specs.Header.{headerRows}
 
 -- a header in a volume of a form: more cards than the form allows, then the header's own
@@ -51,3 +52,9 @@ appendRows f n buffer h =
 -- the empty volume
 unfoldable pub emptyRows : List ℕ → List Row
 emptyRows buffer = row 20 0 0 (eqb (cardsIn buffer) 0) ∷ []
+
+-- and another form that it is brought into
+unfoldable pub convertRows : Form → Form → ℕ → List ℕ → List Row
+convertRows f g n buffer =
+    volumeRows f n buffer
+    ++ (row 21 0 0 (ltb (g .most) n) ∷ row 21 0 0 (not (few (g .largest) (headersOf f n (take (80 * n) buffer)))) ∷ [])
