@@ -1,17 +1,19 @@
 -- A volume compacted within its buffer: what is kept, what is blank, what stays; twice is once, and the room can be appended to.
-use Prim.Native.Nat.{ℕ, zero, suc, _+_, _-_, _*_, _/_, _^_, _≤_, _<_}
+use Prim.Native.Nat.{ℕ, zero, suc, _+_, _-_, _*_, _≤_, _<_}
+use native.Mathlib.Nat.{not-suc-le-zero, le-of-suc-le-suc}
 use native.Mathlib.Omega.{arith}
 use mathlib.Core.Path.{_≡_, refl, sym, ap, ap₂, _∙_}
-use mathlib.Core.Bool.{Bool, true, false, not}
+use mathlib.Core.Bool.{Bool, true, false, not, _||_, false≢true}
+use mathlib.Core.Logic.{_↔_}
 use mathlib.Core.List.{List, [], _∷_, _++_}
-use lib.ListN.{length, take, drop, replicate, length-append, length-take, length-drop, length-replicate}
+use lib.ListN.{length, take, drop, getD, replicate, length-append, length-replicate}
 use lib.Seq.{take-at, drop-at, drop-drop}
 use Rattle.base_lists.specs.Parts.{keep}
 use Rattle.header_check.specs.declared.Checked.the-variants as checked
 use Rattle.header_check.specs.forms.Cards.{cardsIn}
 use Rattle.volume_form.specs.declared.Form.{Form}
 use Rattle.volume_form.specs.Rows.{Row, rowOf}
-use Rattle.volume_form.proofs.Cards.{Good, good-row}
+use Rattle.volume_form.proofs.Cards.{good-row}
 use Rattle.volume_rules.specs.Volume.{joined, volumeOf, Wholes}
 use Rattle.volume_rules.specs.Sound.{headersOf}
 use Rattle.volume_rules.specs.Judged.{headerAnswer, Holds, Accepteds, formIn}
@@ -49,6 +51,35 @@ latest-total (h ∷ hs) ws = go (latest-total hs (ws .1)) (joined-cards h hs (ws
         → (x : Bool) → total (keep x h (latest sameLine hs)) ≤ total (h ∷ hs)
     go r p q true = omega arith
     go r p q false = omega arith
+
+-- a later line is the same
+pub record Later (h : List ℕ) (hs : List (List ℕ)) : Type 0 where
+  pub place : ℕ
+  pub there : place < length hs
+  pub same : sameLine h (getD hs place []) ≡ true
+
+to-later : (h : List ℕ) (hs : List (List ℕ)) → superseded sameLine h hs ≡ true → Later h hs
+unfolding superseded
+to-later h [] e = absurd (false≢true e)
+to-later h (g ∷ hs) e = go (to-later h hs) (sameLine h g) refl e
+  where
+    go : (superseded sameLine h hs ≡ true → Later h hs) → (t : Bool) → sameLine h g ≡ t → (t || superseded sameLine h hs) ≡ true → Later h (g ∷ hs)
+    go more true q x = record { place = 0; there = omega arith; same = q }
+    go more false q x = let l = more x in record { place = suc (l .place); there = omega (arith, l .there); same = l .same }
+
+of-later : (h : List ℕ) (hs : List (List ℕ)) (p : ℕ) → p < length hs → sameLine h (getD hs p []) ≡ true → superseded sameLine h hs ≡ true
+unfolding superseded
+of-later h [] p l e = absurd (not-suc-le-zero l)
+of-later h (g ∷ hs) zero l e = rw e
+of-later h (g ∷ hs) (suc p) l e = go (of-later h hs p (le-of-suc-le-suc l) e) (sameLine h g)
+  where
+    go : superseded sameLine h hs ≡ true → (t : Bool) → (t || superseded sameLine h hs) ≡ true
+    go x true = refl
+    go x false = x
+
+-- a line is superseded exactly if a later one is the same
+pub superseded-exactly : (h : List ℕ) (hs : List (List ℕ)) → (superseded sameLine h hs ≡ true) ↔ Later h hs
+superseded-exactly h hs = (to-later h hs, λ l. of-later h hs (l .place) (l .there) (l .same))
 
 -- where no line is superseded all are kept
 pub all-kept : (hs : List (List ℕ))

@@ -1,16 +1,16 @@
 -- A volume brought into another form within its buffer: when it is, what is left, and the way back.
-use Prim.Native.Nat.{ℕ, zero, suc, _+_, _*_, _^_, _≤_, _<_}
+use Prim.Native.Nat.{ℕ, zero, suc, _+_, _*_, _≤_, _<_}
+use native.Mathlib.Nat.{not-suc-le-zero, le-of-suc-le-suc}
+use native.Mathlib.Decide.{decLe}
 use native.Mathlib.Omega.{arith}
 use mathlib.Core.Path.{_≡_, refl, sym, ap, _∙_}
 use mathlib.Core.Bool.{Bool, true, false, _&&_, false≢true}
+use mathlib.Core.Logic.{_↔_, _⊎_, inl, inr}
 use mathlib.Core.List.{List, [], _∷_, _++_}
 use lib.Dec.{leb}
 use lib.ListN.{length, take, drop, getD, take-append-drop}
 use lib.Seq.{take-at, drop-at}
-use native.Mathlib.Nat.{not-suc-le-zero, le-of-suc-le-suc}
-use native.Mathlib.Decide.{decLe}
-use mathlib.Core.Logic.{_↔_, _⊎_, inl, inr}
-use borrow.Author.Tests.{le-leb, lt-leb, leb-true}
+use borrow.Author.Tests.{le-leb, leb-true}
 use Rattle.base_digits.proofs.digits.Bools.{and-left, and-right}
 use Rattle.base_refusal.specs.Refusals.{refusal}
 use Rattle.header_check.specs.forms.Cards.{cardsIn}
@@ -22,12 +22,11 @@ use Rattle.volume_rules.specs.Volume.{volumeOf}
 use Rattle.volume_rules.specs.Sound.{headersOf}
 use Rattle.volume_rules.specs.Judged.{Holds, Accepteds, formIn}
 use Rattle.volume_rules.specs.Converted.{few, holds, convertChecked}
-use Rattle.volume_rules.proofs.Promises.{total}
 use Rattle.volume_rules.proofs.Exactly.{volume-long}
 use Rattle.volume_rules.proofs.Judging.{header-taken, taken-header, taken-wholes, volume-accepted, volume-tells}
 use Rattle.volume_edit.specs.declared.Volume.{Volume}
 use Rattle.volume_edit.specs.declared.Volume.the-variants.{Cards, Refused}
-use Rattle.volume_edit.specs.Written.{cardsBy, convertAnswer, leftBy}
+use Rattle.volume_edit.specs.Written.{convertAnswer, leftBy}
 use Rattle.promises.specs.Rewritten.{formAnswer, formLeft}
 use Rattle.promises.proofs.Forms.{form-told}
 
@@ -125,9 +124,9 @@ pub form-back : (from to : Form) (n : ℕ) (buffer : List ℕ) (hs : List (List 
     → (formAnswer from n (formLeft to n buffer) ≡ Cards n) × (formLeft from n (formLeft to n buffer) ≡ buffer)
 form-back from to n buffer hs is e =
     let own = own-held (rowOf from) (good-row from) n buffer hs is in
-    let there = form-holds from to n buffer hs is e in (
-      form-done to from n (formLeft to n buffer) hs there own,
-      form-left to from n (formLeft to n buffer) hs there own
+    let left = form-holds from to n buffer hs is e in (
+      form-done to from n (formLeft to n buffer) hs left own,
+      form-left to from n (formLeft to n buffer) hs left own
           ∙ ap (λ l. volumeOf (rowOf from) hs ++ l) (form-behind from to n buffer hs is e)
           ∙ whole-buffer (rowOf from) (good-row from) n buffer hs is,
     )

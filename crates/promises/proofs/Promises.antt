@@ -664,6 +664,11 @@ pub form-kept : (form : VolumeForm) (n : ℕ) (buffer : List ℕ) (hs : List (Li
     → (formAnswer form n buffer ≡ volume.Cards n) × (formLeft form n buffer ≡ buffer)
 form-kept = in-form.form-kept
 
+-- A line is superseded exactly if a later one is the same.
+
+pub superseded-exactly : (h : List ℕ) (hs : List (List ℕ)) → (superseded sameLine h hs ≡ true) ↔ compact-volumes.Later h hs
+superseded-exactly = compact-volumes.superseded-exactly
+
 -- Compacting leaves an accepted volume of the lines that are kept, in the form that it had; the cards so freed are blank, and what lay
 -- past the old trailer stays. Where nothing is superseded the bytes stay, so they do the second time. The room can be appended to.
 
