@@ -146,30 +146,12 @@ fn list_lines(volume: &[u8], cards: usize) {
     }
 }
 
-fn list() {
-    let mut volume = room();
-    let taken = take(&mut volume);
-    match taken {
-        Taken::Cards(n) => list_lines(&volume, n),
-        Taken::Nothing => words::say(b""),
-    }
-}
-
 // Writes the header at a place.
 fn get_line(volume: &[u8], cards: usize, place: usize) {
     let found = volume_check::find_line(volume, cards, place);
     match found {
         Found::Line(_, _, _) => write(volume_check::line(volume, cards, place)),
         Found::Refused(r) => words::tell(r, Whose::Volume),
-    }
-}
-
-fn get(place: usize) {
-    let mut volume = room();
-    let taken = take(&mut volume);
-    match taken {
-        Taken::Cards(n) => get_line(&volume, n, place),
-        Taken::Nothing => words::say(b""),
     }
 }
 
@@ -195,9 +177,8 @@ fn append_line(volume: &mut [u8], cards: usize, header: &[u8]) {
 fn append_to(header: &[u8]) {
     let mut volume = room();
     let taken = take(&mut volume);
-    match taken {
-        Taken::Cards(n) => append_line(&mut volume, n, header),
-        Taken::Nothing => words::say(b""),
+    if let Taken::Cards(n) = taken {
+        append_line(&mut volume, n, header);
     }
 }
 
@@ -220,50 +201,39 @@ fn append(size: usize) {
     append_from(&mut header[..size]);
 }
 
-// Writes what was made of a volume.
-fn write_changed(volume: &[u8], changed: Volume) {
+// Brings a volume into another form, or drops superseded lines.
+fn changed_by(wanted: Wanted, volume: &mut [u8], cards: usize) -> Volume {
+    match wanted {
+        Wanted::Widen => convert::widen(volume, cards),
+        Wanted::Narrow => convert::narrow(volume, cards),
+        _ => compact::compact(volume, cards),
+    }
+}
+
+// Writes a volume that is changed.
+fn change(wanted: Wanted, volume: &mut [u8], cards: usize) {
+    let changed = changed_by(wanted, volume, cards);
     match changed {
         Volume::Cards(n) => write(front(volume, n)),
         Volume::Refused(r) => words::tell(r, Whose::Volume),
     }
 }
 
-// Brings a volume to the wide form.
-fn widen() {
-    let mut volume = room();
-    let taken = take(&mut volume);
-    match taken {
-        Taken::Cards(n) => {
-            let changed = convert::widen(&mut volume, n);
-            write_changed(&volume, changed);
-        }
-        Taken::Nothing => words::say(b""),
+// Does what is asked for with a volume.
+fn answer(wanted: Wanted, volume: &mut [u8], cards: usize, place: usize) {
+    match wanted {
+        Wanted::List => list_lines(volume, cards),
+        Wanted::Get => get_line(volume, cards, place),
+        _ => change(wanted, volume, cards),
     }
 }
 
-// Brings a volume to the old form.
-fn narrow() {
+// Reads the volume, and does what is asked for.
+fn read_and_answer(wanted: Wanted, place: usize) {
     let mut volume = room();
     let taken = take(&mut volume);
-    match taken {
-        Taken::Cards(n) => {
-            let changed = convert::narrow(&mut volume, n);
-            write_changed(&volume, changed);
-        }
-        Taken::Nothing => words::say(b""),
-    }
-}
-
-// Drops superseded lines.
-fn compact() {
-    let mut volume = room();
-    let taken = take(&mut volume);
-    match taken {
-        Taken::Cards(n) => {
-            let changed = compact::compact(&mut volume, n);
-            write_changed(&volume, changed);
-        }
-        Taken::Nothing => words::say(b""),
+    if let Taken::Cards(n) = taken {
+        answer(wanted, &mut volume, n, place);
     }
 }
 
@@ -271,15 +241,11 @@ fn compact() {
 fn run(wanted: Wanted, number: usize) {
     match wanted {
         Wanted::New => make_new(),
-        Wanted::List => list(),
-        Wanted::Get => get(number),
         Wanted::Append => append(number),
-        Wanted::Widen => widen(),
-        Wanted::Narrow => narrow(),
-        Wanted::Compact => compact(),
         Wanted::Other => words::say(
             b"linevolume: usage: linevolume new|list|get PLACE|append SIZE|widen|narrow|compact\n",
         ),
+        _ => read_and_answer(wanted, number),
     }
 }
 
