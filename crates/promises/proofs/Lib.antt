@@ -11,4 +11,3 @@ pub mod Promises
 pub mod Forms
 pub mod Converted
 pub mod Compacted
-pub mod Examples

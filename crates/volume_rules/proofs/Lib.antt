@@ -9,3 +9,4 @@ pub mod Converting
 pub mod Superseded
 pub mod Compacting
 pub mod Examples
+pub mod SameLines

@@ -1,4 +1,4 @@
--- Lines that are the same and lines that are not, and wide cards, as computed.
+-- Lines that are the same and lines that are not, and a wide volume compacted, as computed.
 use Prim.Native.Nat.{ℕ}
 use mathlib.Core.Path.{_≡_, refl}
 use mathlib.Core.Bool.{true, false}
