@@ -62,3 +62,9 @@ header() { # CARDS
         printf '%-80s' "$card"
     done <"$1"
 }
+
+# Prints a header with as many comments behind it as make so many cards.
+lengthened() { # HEADER CARDS
+    cat "$1"
+    yes "$(printf '%-80s' C0001)" | tr -d '\n' | head -c $(($2 * 80 - $(stat -c %s "$1"))) || true
+}

@@ -190,7 +190,7 @@ fn push_field(
     fields::push_field(out, n, layout, form, number, column)
 }
 
-// Puts the sentence of a refusal.
+// Puts the sentence of a refusal by a program that takes so many cards.
 fn push_reason(
     out: &mut [u8],
     n: usize,
@@ -198,12 +198,20 @@ fn push_reason(
     number: usize,
     place: usize,
     column: usize,
+    most: usize,
 ) -> usize {
     let card = page::card_in(header, place);
     match number {
         1 => page::push_all(out, n, b"The header is empty."),
         2 => push_length(out, n, header),
-        3 => page::push_all(out, n, b"The header has more than 800 cards."),
+        3 => page::push_form(
+            out,
+            n,
+            b"The header has more than # cards.",
+            most as u64,
+            0,
+            0,
+        ),
         4 => push_unprintable(out, n, card, column),
         5 => push_unknown(out, n, card),
         6 => push_misplaced(out, n, header, card, place),
@@ -233,14 +241,20 @@ fn push_tape(out: &mut [u8], n: usize, header: &[u8]) -> usize {
     page::push_all(out, n, words)
 }
 
-// Tells why a header is refused: its card, a caret, and a sentence, each behind two blanks.
-pub fn tell_refusal(out: &mut [u8], n: usize, header: &[u8], refusal: Refusal) -> usize {
+// Tells why a header is refused by a program that takes so many cards: its card, a caret, and a sentence, each behind two blanks.
+pub fn tell_refusal(
+    out: &mut [u8],
+    n: usize,
+    header: &[u8],
+    refusal: Refusal,
+    most: usize,
+) -> usize {
     let number = refusal.number;
     let place = refusal.card;
     let column = refusal.column;
     let shown = push_card_if(out, n, page::card_in(header, place), column);
     let begun = page::push_all(out, shown, b"  ");
-    let told = push_reason(out, begun, header, number, place, column);
+    let told = push_reason(out, begun, header, number, place, column, most);
     let ended = page::push(out, told, b'\n');
     push_tape(out, ended, header)
 }

@@ -4,6 +4,7 @@ use base_refusal::NO_CORRECTIONS;
 use base_refusal::NO_DIRECTION;
 use base_refusal::NO_READING;
 use base_refusal::Refusal;
+use base_refusal::TOO_MANY;
 use libc::STDERR_FILENO;
 
 // Says words on standard error; where that fails too there is nobody to tell.
@@ -14,6 +15,7 @@ pub fn say(words: &[u8]) {
 // Says what a refusal's number means.
 fn say_why(number: usize) {
     match number {
+        TOO_MANY => say(b"the header has more than 4096 cards.\n"),
         NO_COMPASS => say(b"the serial is not defined exactly once on the H22@0 cards.\n"),
         NO_CORRECTIONS => say(b"there is not exactly one H23@0 card for the serial.\n"),
         NO_DIRECTION => {

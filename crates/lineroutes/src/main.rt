@@ -36,7 +36,7 @@ fn show_refused(out: &mut [u8], header: &[u8], refusal: Refusal) -> usize {
         let words = b"  A datum is defined more than once, so no route can be told.\n";
         return page::push_all(out, said, words);
     }
-    crew_refusal::tell_refusal(out, said, header, refusal)
+    crew_refusal::tell_refusal(out, said, header, refusal, format_layout::CARDS)
 }
 
 // The datum at the other end of a shift, both as the digits that stand on its card.

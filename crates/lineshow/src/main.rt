@@ -5,6 +5,7 @@ use crew_fault::places;
 use crew_io::input;
 use crew_io::input::Input;
 use crew_io::page;
+use format_layout::FEW_CARDS;
 use tie_check::Ties;
 use tie_check::entries::ENTRY;
 
@@ -95,7 +96,7 @@ fn show_refused(out: &mut [u8], header: &[u8], refusal: Refusal) -> usize {
     let mut text = [0u8; LINE];
     let size = lines::spell_refused(&mut text, refusal.number, refusal.card, refusal.column);
     let said = page::push_all(out, 0, &text[..size]);
-    crew_refusal::tell_refusal(out, said, header, refusal)
+    crew_refusal::tell_refusal(out, said, header, refusal, FEW_CARDS)
 }
 
 // Checks a header, and shows what the check says.

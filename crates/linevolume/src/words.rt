@@ -5,6 +5,7 @@ use base_refusal::NO_SUCH;
 use base_refusal::NO_TRAILER;
 use base_refusal::NOT_OLD;
 use base_refusal::Refusal;
+use base_refusal::TOO_MANY;
 use libc::STDERR_FILENO;
 
 // Whose refusal it is where it is a header's own.
@@ -23,13 +24,24 @@ fn say_number(n: usize) {
     io::print_decimal(STDERR_FILENO, n as u64);
 }
 
-// Says that a header is refused.
-fn say_header(whose: Whose) {
+// Says that the header to be appended is refused.
+fn say_refused(number: usize) {
+    if number == TOO_MANY {
+        say(
+            b"the header has more cards than the volume's form allows, 800 or, if it is wide, 4096.\n",
+        );
+        return;
+    }
+    say(b"so the header is refused. ./lineshow tells more.\n");
+}
+
+// Says whose header is refused.
+fn say_header(number: usize, whose: Whose) {
     match whose {
         Whose::Volume => say(
             b"so a header in the volume is refused, its cards counted by themselves.\n",
         ),
-        Whose::Header => say(b"so the header is refused. ./lineshow tells more.\n"),
+        Whose::Header => say_refused(number),
     }
 }
 
@@ -43,7 +55,7 @@ fn say_why(number: usize, whose: Whose) {
         NO_DIRECTORY => say(b"the volume's directory does not agree with its headers.\n"),
         NO_CARDS_LEFT => say(b"the volume would have more cards than it may.\n"),
         NOT_OLD => say(b"the old form cannot hold this volume.\n"),
-        _ => say_header(whose),
+        _ => say_header(number, whose),
     }
 }
 
