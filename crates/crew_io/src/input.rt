@@ -1,8 +1,14 @@
 // Standard input, read to its end or until a lent buffer is full; a read that fails is told.
+use format_layout::CARD;
+use format_layout::CARDS;
 use libc::STDIN_FILENO;
+ghost use mathlib.Core.Path.{_≡_};
 ghost use Prim.Native.Nat.{_≤_};
 ghost use lib.ListN.{length};
 ghost use Rattle.crew_io.specs.input.Sizes.{Brings, sizeOf};
+
+// The longest header, and one card more to notice a longer one.
+pub const ROOM: usize = (CARDS + 1) * CARD;
 
 // What one read brings.
 pub enum More {
@@ -15,6 +21,13 @@ pub enum More {
 pub enum Input {
     Whole(usize),
     Failed,
+}
+
+// Room for a header, made here so that only a law has to know its length.
+pub fn room() -> [u8; ROOM]
+    ensures { λ r. ⌜ 327760 ≡ length r ⌝ }
+{
+    [0; ROOM]
 }
 
 // Reads once, behind the bytes that came before.

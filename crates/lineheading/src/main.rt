@@ -12,17 +12,12 @@ use libc::STDOUT_FILENO;
 use survey_compass::Heading;
 use value_number::number;
 use value_number::number_entry;
-ghost use mathlib.Core.Path.{_≡_};
-ghost use lib.ListN.{length};
 
 // What an argument is as a number.
 enum Given {
     Number(Decimal),
     Not,
 }
-
-// The longest header, and one card more to notice a longer one.
-const ROOM: usize = 327760;
 
 // The longest argument.
 const WORD: usize = 32;
@@ -92,15 +87,8 @@ fn answer(header: &[u8]) {
     tell(survey_compass::find_heading(header, &serial[..size], raw, whole));
 }
 
-// Room for the longest header, made here so that only a law has to know its length.
-fn room() -> [u8; ROOM]
-    ensures { λ r. ⌜ 327760 ≡ length r ⌝ }
-{
-    [0; ROOM]
-}
-
 fn main() {
-    let mut buf = room();
+    let mut buf = input::room();
     let input = input::read_all(&mut buf);
     match input {
         Input::Whole(n) => answer(&buf[..n]),

@@ -11,11 +11,6 @@ use survey_routes::DATUMS;
 use survey_routes::NO_ROUTE;
 use survey_routes::SHIFTS;
 ghost use Prim.Native.Nat.{_<_};
-ghost use mathlib.Core.Path.{_≡_};
-ghost use lib.ListN.{length};
-
-// The longest header, and one card more to notice a longer one.
-const ROOM: usize = 327760;
 
 const PAGE: usize = 4096;
 
@@ -129,15 +124,8 @@ fn reply(header: &[u8]) {
     }
 }
 
-// Room for the longest header, made here so that only a law has to know its length.
-fn room() -> [u8; ROOM]
-    ensures { λ r. ⌜ 327760 ≡ length r ⌝ }
-{
-    [0; ROOM]
-}
-
 fn main() {
-    let mut buf = room();
+    let mut buf = input::room();
     let input = input::read_all(&mut buf);
     match input {
         Input::Whole(n) => reply(&buf[..n]),

@@ -35,26 +35,17 @@ enum Taken {
     Nothing,
 }
 
-// The longest header and the longest volume, and one card more of each to notice a longer one.
-const HEADER: usize = 4097 * CARD;
-
+// The longest volume, and one card more to notice a longer one.
 const VOLUME: usize = 20001 * CARD;
 
 // The longest argument.
 const WORD: usize = 24;
 
 // Room for a volume: in a function of its own, since the check of each function goes over the arrays that it makes.
-fn room() -> [u8; VOLUME]
+fn volume_room() -> [u8; VOLUME]
     ensures { λ r. ⌜ 1600080 ≡ length r ⌝ }
 {
     [0; VOLUME]
-}
-
-// Room for a header.
-fn header_room() -> [u8; HEADER]
-    ensures { λ r. ⌜ 327760 ≡ length r ⌝ }
-{
-    [0; HEADER]
 }
 
 // What an argument asks for.
@@ -175,7 +166,7 @@ fn append_line(volume: &mut [u8], cards: usize, header: &[u8]) {
 
 // Reads the volume behind the header.
 fn append_to(header: &[u8]) {
-    let mut volume = room();
+    let mut volume = volume_room();
     let taken = take(&mut volume);
     if let Taken::Cards(n) = taken {
         append_line(&mut volume, n, header);
@@ -193,8 +184,8 @@ fn append_from(header: &mut [u8]) {
 
 // Appends a header of so many bytes, which stand at the front of the input.
 fn append(size: usize) {
-    let mut header = header_room();
-    if HEADER < size {
+    let mut header = input::room();
+    if input::ROOM < size {
         words::say(b"linevolume: the header is too long\n");
         return;
     }
@@ -230,7 +221,7 @@ fn answer(wanted: Wanted, volume: &mut [u8], cards: usize, place: usize) {
 
 // Reads the volume, and does what is asked for.
 fn read_and_answer(wanted: Wanted, place: usize) {
-    let mut volume = room();
+    let mut volume = volume_room();
     let taken = take(&mut volume);
     if let Taken::Cards(n) = taken {
         answer(wanted, &mut volume, n, place);

@@ -5,8 +5,8 @@ use borrow.Author.Needs.{needs}
 use Rattle.linevolume.proofs.append.Statement.{statement}
 use Rattle.linevolume.proofs.append.Tie as tie
 
-header-room-requires : tie.Need-header-room-requires
-header-room-requires c κs = search needs
+room-requires : tie.Need-room-requires
+room-requires c κs = search needs
 
 slice-aggregate-say : tie.Need-slice-aggregate-say
 slice-aggregate-say c = search needs
@@ -33,7 +33,7 @@ pub append-spec : {M : Type 1} → statement M
 append-spec =
     tie.close
     (tie.spec
-    header-room-requires
+    room-requires
     slice-aggregate-say
     say-requires
     returns

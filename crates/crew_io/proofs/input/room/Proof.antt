@@ -2,8 +2,8 @@
 use Prim.Native.Nat.{ℕ}
 use mathlib.Core.Path.{_≡_, sym}
 use lib.ListN.{length, replicate, length-replicate}
-use Rattle.lineheading.proofs.room.Statement.{statement}
-use Rattle.lineheading.proofs.room.Tie as tie
+use Rattle.crew_io.proofs.input.room.Statement.{statement}
+use Rattle.crew_io.proofs.input.room.Tie as tie
 
 zeros : (n : ℕ) → n ≡ length {0} {A = ℕ} (replicate {0} {A = ℕ} n 0)
 zeros n = sym (length-replicate {0} {A = ℕ} n 0)
