@@ -6,10 +6,10 @@ use crew_io::input::Input;
 use crew_io::page;
 use survey_datums::Answer;
 use survey_datums::UNDEFINED;
-use survey_routes::CARDS;
-use survey_routes::DATUMS;
-use survey_routes::NO_ROUTE;
-use survey_routes::SHIFTS;
+use survey_datums::routing::CARDS;
+use survey_datums::routing::DATUMS;
+use survey_datums::routing::NO_ROUTE;
+use survey_datums::routing::SHIFTS;
 ghost use Prim.Native.Nat.{_<_};
 
 const PAGE: usize = 4096;

@@ -9,7 +9,7 @@ use Rattle.base_refusal.specs.declared.Refusal.{Refusal}
 use Rattle.base_refusal.specs.Refusals.{refusal}
 use Rattle.header_check.specs.declared.Checked.the-variants.{Accepted, Refused}
 use Rattle.header_check.specs.Refusing.{refusalOf}
-use Rattle.survey_routes.specs.Chains.{distance, routeFrom, next}
+use Rattle.survey_datums.specs.routing.Chains.{distance, routeFrom, next}
 use Rattle.survey_datums.specs.Datums.{isDefined, someTwice}
 use Rattle.survey_datums.specs.Chains.{Chain}
 use Rattle.survey_datums.specs.Answer.{shiftsTold, toldOf, refusedWith, routesFor, routesOf, wayOf, numberOf}

@@ -13,9 +13,9 @@ use Rattle.base_refusal.specs.declared.Refusal.{Refusal}
 use Rattle.base_refusal.specs.Refusals.{refusal}
 use Rattle.header_check.specs.declared.Checked.the-variants as checked
 use Rattle.header_check.specs.Refusing.{refusalOf}
-use Rattle.survey_routes.specs.Chains.{distance}
-use Rattle.survey_routes.specs.Tables.{entry, distances, cardsOf}
-use Rattle.survey_routes.proofs.Filling.{at-listed, listed-same}
+use Rattle.survey_datums.specs.routing.Chains.{distance}
+use Rattle.survey_datums.specs.routing.Tables.{entry, distances, cardsOf}
+use Rattle.survey_datums.proofs.routing.Filling.{at-listed, listed-same}
 use Rattle.survey_datums.specs.declared.Answer.the-variants.{Told}
 use Rattle.survey_datums.specs.declared.Routes.{Routes}
 use Rattle.survey_datums.specs.declared.Way.{Way}

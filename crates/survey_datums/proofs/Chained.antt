@@ -14,11 +14,11 @@ use Rattle.base_lists.specs.Count.{first}
 use Rattle.base_lists.specs.Parts.{upTo}
 use Rattle.base_lists.proofs.Finding.{first-le, first-least, first-passes}
 use Rattle.header_check.specs.forms.Cards.{cardsIn}
-use Rattle.survey_routes.specs.Chains.{reach, distance, next, route, routeFrom}
-use Rattle.survey_routes.specs.Tables.{entry}
-use Rattle.survey_routes.proofs.Filling.{at-listed}
-use Rattle.survey_routes.proofs.Levels.{reach-by}
-use Rattle.survey_routes.proofs.Fewest.{distance-least, distance-reached, next-nearer, next-lowest}
+use Rattle.survey_datums.specs.routing.Chains.{reach, distance, next, route, routeFrom}
+use Rattle.survey_datums.specs.routing.Tables.{entry}
+use Rattle.survey_datums.proofs.routing.Filling.{at-listed}
+use Rattle.survey_datums.proofs.routing.Levels.{reach-by}
+use Rattle.survey_datums.proofs.routing.Fewest.{distance-least, distance-reached, next-nearer, next-lowest}
 use Rattle.survey_datums.specs.Datums.{joins, firstNumber, joiningTo, joining, joiningTable}
 use Rattle.survey_datums.specs.Chains.{Joined, Chain}
 

@@ -12,7 +12,7 @@ use borrow.Author.Tests.{le-leb, lt-leb}
 use Rattle.base_lists.specs.Laid.{fitting, laid}
 use Rattle.base_lists.specs.Parts.{upTo}
 use Rattle.base_refusal.specs.declared.Refusal.{Refusal}
-use Rattle.survey_routes.proofs.Filling.{length-listed, at-listed}
+use Rattle.survey_datums.proofs.routing.Filling.{length-listed, at-listed}
 use Rattle.survey_datums.specs.declared.Answer.the-variants as answer
 use Rattle.survey_datums.specs.declared.Routes.{Routes}
 use Rattle.survey_datums.specs.declared.listing.Listed.the-variants.{Routed, Refused}

@@ -12,9 +12,9 @@ use Rattle.base_lists.specs.Parts.{upTo}
 use Rattle.base_lists.proofs.Finding.{first-same}
 use Rattle.header_check.specs.forms.Cards.{cardAt, cardsIn}
 use Rattle.tie_laws.proofs.Moved.{as-many-cards, reordered, definitions-moved}
-use Rattle.survey_routes.specs.Chains.{distance, next}
-use Rattle.survey_routes.proofs.Filling.{listed-same}
-use Rattle.survey_routes.proofs.Fewest.{distance-same, next-same}
+use Rattle.survey_datums.specs.routing.Chains.{distance, next}
+use Rattle.survey_datums.proofs.routing.Filling.{listed-same}
+use Rattle.survey_datums.proofs.routing.Fewest.{distance-same, next-same}
 use Rattle.survey_datums.specs.Datums.{timesDefined, isDefined, someTwice, isShift, joins, joining}
 use Rattle.survey_datums.specs.Chains.{Joined}
 use Rattle.survey_datums.specs.Answer.{shiftsTold}

@@ -15,7 +15,7 @@ use Rattle.base_lists.specs.Parts.{upTo}
 use Rattle.base_lists.proofs.Finding.{first-le, first-passes, first-below, first-unique, first-none}
 use Rattle.format_layout.specs.Names.{H0120}
 use Rattle.header_check.specs.forms.Cards.{cardAt, cardsIn, layoutOf}
-use Rattle.survey_routes.proofs.Filling.{length-listed, at-listed, listed-same}
+use Rattle.survey_datums.proofs.routing.Filling.{length-listed, at-listed, listed-same}
 use Rattle.survey_datums.specs.Datums.{timesDefined, isDefined, numberIn, isShift, joins, firstNumber, joiningTo, joining}
 use Rattle.survey_datums.specs.packed.Ends.{placeOf, otherOf, farEnd, notable, noted}
 

@@ -8,9 +8,9 @@ use mathlib.Core.List.{List}
 use lib.ListN.{getD}
 use borrow.Author.Tests.{eq-eqb, ne-eqb, lt-ltb, le-ltb, le-leb}
 use Rattle.base_lists.proofs.Finding.{first-le}
-use Rattle.survey_routes.specs.Chains.{reach, distance}
-use Rattle.survey_routes.specs.Tables.{entry}
-use Rattle.survey_routes.proofs.Filling.{at-listed}
+use Rattle.survey_datums.specs.routing.Chains.{reach, distance}
+use Rattle.survey_datums.specs.routing.Tables.{entry}
+use Rattle.survey_datums.proofs.routing.Filling.{at-listed}
 use Rattle.survey_datums.specs.Datums.{isDefined, joiningTable}
 use Rattle.survey_datums.specs.Answer.{shiftsTold, toldOf, wayFor, wayOf, numberOf}
 

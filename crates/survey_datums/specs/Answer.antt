@@ -10,8 +10,8 @@ use Rattle.base_refusal.specs.Refusals.{refusal}
 use Rattle.header_check.specs.declared.Checked.{Checked}
 use Rattle.header_check.specs.declared.Checked.the-variants as checked
 use Rattle.header_check.specs.Refusing.{refusalOf}
-use Rattle.survey_routes.specs.Chains.{datums, mostShifts, distance}
-use Rattle.survey_routes.specs.Tables.{entry, cardsOf}
+use Rattle.survey_datums.specs.routing.Chains.{datums, mostShifts, distance}
+use Rattle.survey_datums.specs.routing.Tables.{entry, cardsOf}
 use Rattle.survey_datums.specs.declared.Answer.{Answer}
 use Rattle.survey_datums.specs.declared.Answer.the-variants.{Told, Refused}
 use Rattle.survey_datums.specs.declared.Routes.{Routes}

@@ -10,7 +10,7 @@ use Rattle.format_layout.specs.Names.{H0120}
 use Rattle.header_check.specs.forms.Cards.{cardAt, cardsIn, layoutOf}
 use Rattle.tie_rules.specs.Keys.{wholeIn}
 use Rattle.tie_rules.specs.Definitions.{definitionsOf}
-use Rattle.survey_routes.specs.Chains.{datums}
+use Rattle.survey_datums.specs.routing.Chains.{datums}
 
 -- the class of datum numbers among the keys
 abbrev pub datumClass : ℕ

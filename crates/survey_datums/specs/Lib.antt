@@ -3,3 +3,4 @@ pub mod Chains
 pub mod Answer
 pub mod Listing
 pub mod packed
+pub mod routing

@@ -7,7 +7,7 @@ use lib.ListN.{getD}
 use Rattle.base_lists.specs.Count.{count}
 use Rattle.base_lists.specs.Laid.{laid}
 use Rattle.base_lists.specs.Parts.{upTo}
-use Rattle.survey_routes.specs.Chains.{datums, mostShifts}
+use Rattle.survey_datums.specs.routing.Chains.{datums, mostShifts}
 use Rattle.survey_datums.specs.declared.Answer.{Answer}
 use Rattle.survey_datums.specs.declared.Answer.the-variants as answer
 use Rattle.survey_datums.specs.declared.Routes.{Routes}

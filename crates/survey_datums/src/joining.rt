@@ -1,8 +1,8 @@
 // The lowest cards that join the datums of a header, two by two.
+use crate::routing::DATUMS;
 use format_layout::CARD;
 use format_layout::names::H0120;
 use header_check::forms;
-use survey_routes::DATUMS;
 use tie_lookup::search;
 use tie_rules::keys;
 use tie_rules::packing;

@@ -2,14 +2,15 @@
 // such route.
 pub mod joining;
 pub mod listing;
+pub mod routing;
 
+use crate::routing::CARDS;
+use crate::routing::DATUMS;
+use crate::routing::NO_ROUTE;
 use base_refusal::DATUM_TWICE;
 use base_refusal::Refusal;
 use base_refusal::refuse;
 use header_check::Checked;
-use survey_routes::CARDS;
-use survey_routes::DATUMS;
-use survey_routes::NO_ROUTE;
 ghost use mathlib.Core.Path.{_≡_};
 ghost use mathlib.Core.Bool.{cond};
 ghost use lib.Dec.{ltb};
@@ -85,8 +86,8 @@ fn routes_in(header: &[u8]) -> Routes
         return refused(refuse(DATUM_TWICE, 0, 0));
     }
     let table = joining::table_of(header, times);
-    let shifts = survey_routes::distances(table);
-    let cards = survey_routes::cards_of(table, shifts);
+    let shifts = routing::distances(table);
+    let cards = routing::cards_of(table, shifts);
     Routes {
         answer: Answer::Told,
         shifts: told(times, shifts),

@@ -1,11 +1,11 @@
 // The routes as a list of numbers: nine to a datum, its number of shifts and then eight cards.
 use crate::Answer;
 use crate::Routes;
+use crate::routing::CARDS;
+use crate::routing::DATUMS;
+use crate::routing::NO_ROUTE;
+use crate::routing::SHIFTS;
 use base_refusal::Refusal;
-use survey_routes::CARDS;
-use survey_routes::DATUMS;
-use survey_routes::NO_ROUTE;
-use survey_routes::SHIFTS;
 ghost use mathlib.Core.Path.{_≡_};
 ghost use mathlib.Core.List.{map};
 ghost use Prim.Native.Nat.{_<_};

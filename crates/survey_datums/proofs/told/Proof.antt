@@ -5,7 +5,7 @@ use mathlib.Core.Path.{_≡_, refl, ap, _∙_}
 use mathlib.Core.List.{List, map}
 use lib.ListN.{length, take, length-set, replicate, getD}
 use Rattle.base_lists.specs.Parts.{upTo}
-use Rattle.survey_routes.proofs.Filling.{fill-begins, fill-next, fill-ends}
+use Rattle.survey_datums.proofs.routing.Filling.{fill-begins, fill-next, fill-ends}
 use mathlib.Core.Bool.{cond}
 use lib.Dec.{ltb}
 use Rattle.survey_datums.specs.packed.Ends.{toldBy}

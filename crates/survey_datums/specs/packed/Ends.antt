@@ -9,7 +9,7 @@ use Rattle.base_lists.specs.Count.{first}
 use Rattle.base_lists.specs.Parts.{upTo}
 use Rattle.format_layout.specs.Names.{H0120}
 use Rattle.header_check.specs.forms.Cards.{layoutOf}
-use Rattle.survey_routes.specs.Chains.{datums}
+use Rattle.survey_datums.specs.routing.Chains.{datums}
 use Rattle.survey_datums.specs.Datums.{numberIn}
 
 -- the datum with a number, 9 where there is none

@@ -5,7 +5,7 @@ use mathlib.Core.Path.{_≡_, refl, ap, _∙_}
 use mathlib.Core.List.{List, map}
 use lib.ListN.{length, take, length-set, replicate}
 use Rattle.base_lists.specs.Parts.{upTo}
-use Rattle.survey_routes.proofs.Filling.{fill-begins, fill-next, fill-ends}
+use Rattle.survey_datums.proofs.routing.Filling.{fill-begins, fill-next, fill-ends}
 use denote.Ref.{now}
 use Rattle.survey_datums.specs.Datums.{timesDefined}
 use borrow.Author.Needs.{needs}

@@ -9,7 +9,7 @@ use Rattle.base_lists.specs.Parts.{upTo}
 use Rattle.header_check.specs.forms.Cards.{cardsIn}
 use Rattle.header_check.proofs.forms.Steps.{card-part, card-ends}
 use Rattle.header_laws.proofs.Accepted.{few-cards}
-use Rattle.survey_routes.proofs.Filling.{at-listed}
+use Rattle.survey_datums.proofs.routing.Filling.{at-listed}
 use Rattle.survey_datums.specs.Datums.{timesDefined, joiningTo, joining}
 use Rattle.survey_datums.specs.packed.Ends.{farEnd}
 use Rattle.survey_datums.proofs.Noting.{none-yet, none-ever, card-more, row-told}

@@ -6,7 +6,7 @@ use mathlib.Core.List.{List, map}
 use lib.ListN.{length, take, drop, length-set}
 use denote.Ref.{now}
 use Rattle.base_lists.specs.Parts.{upTo}
-use Rattle.survey_routes.proofs.Filling.{fill-begins, fill-next}
+use Rattle.survey_datums.proofs.routing.Filling.{fill-begins, fill-next}
 use Rattle.survey_datums.specs.Listing.{numberAt}
 use Rattle.survey_datums.proofs.Laying.{room-small, room-within, behind, all-laid}
 use borrow.Author.Needs.{needs}
