@@ -29,7 +29,7 @@ use Rattle.volume_rules.proofs.Covering.{cards-of, Covered, covered, back}
 use Rattle.volume_rules.proofs.Judging.{Sounds, sounds, accepted-volume, then-passed, unless-passed}
 use Rattle.volume_rules.proofs.Superseded.{few-told}
 use Rattle.volume_rules.proofs.Converting.{convert-whole}
-use Rattle.volume_rules.proofs.Compacting.{compact-whole}
+use Rattle.volume_rules.proofs.Closing.{compact-whole}
 use Rattle.volume_check.specs.Steps.{Trailed}
 use Rattle.volume_check.proofs.Placing.{trailed, held}
 use Rattle.volume_check.proofs.judging.Parts.{least, before-last, last-long, directory-long}

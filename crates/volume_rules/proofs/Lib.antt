@@ -8,5 +8,7 @@ pub mod Judging
 pub mod Converting
 pub mod Superseded
 pub mod Compacting
+pub mod Keeping
+pub mod Closing
 pub mod Examples
 pub mod SameLines

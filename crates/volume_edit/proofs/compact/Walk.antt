@@ -15,7 +15,8 @@ use Rattle.volume_rules.specs.Sound.{headersIn}
 use Rattle.volume_rules.specs.Latest.{superseded}
 use Rattle.volume_rules.specs.SameLine.{sameLine, supersededOn}
 use Rattle.volume_rules.specs.Packed.{Packed}
-use Rattle.volume_rules.proofs.Compacting.{Compacting, compact-starts, compact-length, compact-first, compact-later, compact-room, superseded-here, compact-passes, compact-card, compact-keeps, compact-ends}
+use Rattle.volume_rules.proofs.Compacting.{Compacting, compact-starts, compact-length, compact-first, compact-later, compact-ends}
+use Rattle.volume_rules.proofs.Keeping.{compact-room, superseded-here, compact-passes, compact-card, compact-keeps}
 use Rattle.volume_edit.specs.Parts.{Listed, LineFits, lineKept}
 use Rattle.volume_edit.proofs.convert.Steps.{cards₀, directory₀, rest₀, parts₀, cards-long, directory-long}
 
