@@ -1,11 +1,10 @@
 -- To diskette and back, from diskette and back, and how much room each way takes.
-use Prim.Native.Nat.{ℕ, zero, suc, _+_, _*_, _-_, _/_, _%_, _≤_, _<_}
+use Prim.Native.Nat.{ℕ, zero, suc, _+_, _*_, _-_, _/_, _%_, _≤_}
 use native.Mathlib.Nat.{div-add-mod', mul-div-cancel, mul-mod-left}
 use native.Mathlib.Omega.{arith}
 use native.Mathlib.Decide.{decLt}
 use mathlib.Core.Path.{_≡_, refl, sym, ap, ap₂, subst, _∙_}
-use mathlib.Core.List.{List, [], _∷_, _++_, flatMap, append-assoc, append-nil}
-use mathlib.Core.Option.{none}
+use mathlib.Core.List.{List, [], _∷_, _++_, flatMap, append-assoc}
 use lib.ListN.{length, getD, take, drop, replicate, length-append, length-take, length-drop, take-append-drop, List·getD-append, getD-replicate}
 use lib.Seq.{take-nil, take-all, take-at, take-append-le, drop-at, getD-drop, getD-append-add, getD-append-seam, length-take-le}
 use Rattle.value_text.specs.text.Texts.{textEnd, textOf}
@@ -13,9 +12,9 @@ use Rattle.value_text.proofs.text.Agreed.{end-le, blank-behind}
 use Rattle.value_text.proofs.text.Back.{end-blanks}
 use Rattle.media_diskette.specs.declared.Converted.the-variants.{Length}
 use Rattle.media_diskette.specs.Lines.{lineOf, linesOf, diskOf, linesIn, padded, cardsFrom, trimmed, Cards, NoBlankEnds}
-use Rattle.media_diskette.specs.Answers.{refusedBy, badByte, offence, sized, cardsJudged, fileJudged, toAnswer, fromAnswer}
+use Rattle.media_diskette.specs.Answers.{refusedBy, sized, cardsJudged, fileJudged, toAnswer, fromAnswer}
 use Rattle.media_diskette.proofs.Judging.{line-size, cards-few, file-some, sized-few, room-for, in-room, cards-fine, FileFine, file-fine}
-use Rattle.media_diskette.proofs.Filing.{Filed, nothing, line, filed, filed-lines, filed-fine, filed-size, padded-size, plain-size, cards-size}
+use Rattle.media_diskette.proofs.Filing.{Filed, nothing, line, filed, filed-lines, filed-fine, padded-size, plain-size, cards-size}
 use Rattle.media_diskette.proofs.Printed.{Good, good-take, good-drop, plain-good, filed-good, none-bad}
 
 -- TO DISKETTE

@@ -8,10 +8,9 @@ use mathlib.Core.Bool.{Bool, true, false, cond, _&&_}
 use lib.ListN.{length, getD, take, drop, length-append, length-drop, length-replicate, drop-of-length-le}
 use lib.Seq.{take-at, take-all, length-take-le, drop-drop, drop-append-add, getD-append-seam}
 use borrow.Rule.Slice.PartMut.{putMid}
-use lib.Dec.{eqb, ltb}
+use lib.Dec.{eqb}
 use borrow.Author.Tests.{eq-eqb, eqb-true, ltb-true}
 use Rattle.base_digits.proofs.digits.Bools.{and-left, and-right}
-use Rattle.base_lists.specs.Count.{first}
 use Rattle.base_lists.proofs.Finding.{first-unique}
 use Rattle.base_refusal.specs.declared.Refusal.{Refusal}
 use Rattle.base_refusal.specs.Refusals.{refusal}

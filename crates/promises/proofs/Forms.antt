@@ -1,12 +1,11 @@
 -- Both forms of a volume, and which lines compacting keeps.
-use Prim.Native.Nat.{ℕ, _+_, _-_, _*_, _≤_}
+use Prim.Native.Nat.{ℕ, _-_, _*_, _≤_}
 use native.Mathlib.Omega.{arith}
-use mathlib.Core.Path.{_≡_, refl, sym, ap, ap₂, _∙_}
+use mathlib.Core.Path.{_≡_, refl, sym, ap, _∙_}
 use mathlib.Core.Bool.{Bool, true, false, not, cond}
 use mathlib.Core.List.{List, [], _∷_, _++_}
-use lib.ListN.{length, take, drop, length-drop, take-append-drop}
+use lib.ListN.{take, drop, length-drop, take-append-drop}
 use lib.Seq.{take-take, take-append-le, drop-append-le}
-use lib.Dec.{leb}
 use borrow.Author.Tests.{le-leb}
 use Rattle.base_lists.specs.Parts.{alike, keep}
 use Rattle.header_check.specs.forms.Cards.{cardsIn}
@@ -14,7 +13,7 @@ use Rattle.volume_form.specs.declared.Form.{Form}
 use Rattle.volume_form.specs.declared.Form.the-variants.{Old, Wide}
 use Rattle.volume_form.specs.Rows.{rowOf}
 use Rattle.volume_form.proofs.Cards.{good-row, code-trailer}
-use Rattle.volume_rules.specs.Sound.{points, lastCard}
+use Rattle.volume_rules.specs.Sound.{lastCard}
 use Rattle.volume_rules.specs.Judged.{Holds, Accepteds, formIn}
 use Rattle.volume_rules.specs.Converted.{few, holds}
 use Rattle.volume_rules.specs.Latest.{superseded, latest}

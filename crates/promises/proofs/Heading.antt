@@ -4,7 +4,7 @@ use native.Mathlib.Decide.{ℕ-discrete}
 use mathlib.Core.Path.{_≡_, refl, sym, ap, _∙_}
 use mathlib.Core.Bool.{Bool, true, false, cond, not, _||_}
 use mathlib.Core.Logic.{_↔_}
-use mathlib.Core.List.{List, [], _∷_}
+use mathlib.Core.List.{List, _∷_}
 use mathlib.Core.Option.{Option, none, some}
 use lib.Dec.{eqb}
 use lib.IntN.{ℤ, natAbs}
@@ -21,7 +21,6 @@ use Rattle.header_check.specs.declared.Checked.the-variants as checked
 use Rattle.header_check.specs.Refusing.{refusalOf}
 use Rattle.tie_rules.specs.Offered.{textClass, textOffered}
 use Rattle.tie_rules.specs.Definitions.{definitionsOf, placeOf}
-use Rattle.tie_lookup.specs.declared.questions.Key.the-variants as key
 use Rattle.tie_lookup.specs.declared.questions.Defined.the-variants as defined
 use Rattle.tie_lookup.specs.questions.Questions.{isClass, keyOffered, definedBy, answerBy, keyAnswer}
 use Rattle.survey_compass.specs.declared.Heading.{Heading}

@@ -1,5 +1,5 @@
 -- Volumes: each answer is the first refusal that its rows give, or none; what is read and written; how numbers are spelled.
-use Prim.Native.Nat.{ℕ, zero, suc, _+_, _-_, _*_, _%_, _≤_, _<_, max}
+use Prim.Native.Nat.{ℕ, _+_, _-_, _*_, _%_, _≤_, max}
 use native.Mathlib.Decide.{ℕ-discrete, decLe}
 use native.Mathlib.Omega.{arith}
 use mathlib.Core.Path.{_≡_, refl, sym, ap, ap₂, _∙_}
@@ -8,12 +8,12 @@ use mathlib.Core.Logic.{_↔_}
 use mathlib.Core.List.{List, [], _∷_, _++_}
 use mathlib.Core.Option.{Option, none, some}
 use lib.Dec.{eqb, leb, ltb}
-use lib.ListN.{length, take, drop, getD, replicate}
+use lib.ListN.{length, take, getD}
 use borrow.Author.Tests.{le-leb, lt-leb, lt-ltb, le-ltb, eq-eqb, ne-eqb}
 use Rattle.base_refusal.specs.declared.Refusal.{Refusal}
 use Rattle.base_refusal.specs.Refusals.{refusal}
-use Rattle.base_digits.specs.digits.Digits.{digits, size}
-use Rattle.base_digits.specs.digits.Columns.{rightAdjusted, orElse as firstOf2}
+use Rattle.base_digits.specs.digits.Digits.{size}
+use Rattle.base_digits.specs.digits.Columns.{rightAdjusted}
 use Rattle.base_digits.proofs.digits.Spell.{digits-length}
 use Rattle.base_digits.proofs.digits.Numbers.{size-some}
 use Rattle.value_number.specs.number_entry.Spelling.{unitsIn, spelled as numberSpelled, plain, sign}

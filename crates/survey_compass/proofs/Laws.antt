@@ -11,7 +11,7 @@ use lib.IntN.{ℤ, pos, negsuc, negℤ, natAbs, _+ℤ_, _*ℤ_, +ℤ-idr}
 use Rattle.base_refusal.specs.declared.Refusal.{Refusal}
 use Rattle.base_refusal.specs.Refusals.{refusal}
 use Rattle.base_value.specs.declared.Decimal.{Decimal}
-use Rattle.base_value.specs.Sums.{decimal, nothing, placesOf, unitsAt, exactSum}
+use Rattle.base_value.specs.Sums.{decimal, nothing, unitsAt, exactSum}
 use Rattle.value_field.proofs.spelling.Absence.{zero-one}
 use Rattle.value_text.specs.text.Texts.{textOf}
 use Rattle.tie_rules.specs.Keys.{wholeIn}
@@ -22,10 +22,10 @@ use Rattle.tie_lookup.specs.questions.Questions.{keyAnswer}
 use Rattle.survey_compass.specs.declared.Heading.{Heading}
 use Rattle.survey_compass.specs.declared.Heading.the-variants.{Is, Refused}
 use Rattle.survey_compass.specs.Serials.{cardsFor, cardFor}
-use Rattle.survey_compass.specs.Directions.{markOf, markAt, listedTwice, apart, unlisted, rankAt, leastTo, leastRank, nearest}
+use Rattle.survey_compass.specs.Directions.{markAt, listedTwice, apart, unlisted, rankAt, leastTo, leastRank, nearest}
 use Rattle.survey_compass.specs.Corrections.{fixedOn, nearestOn, summedOn, turn, within, turned}
 use Rattle.survey_compass.specs.Headings.{offCircle, badReading, headingOn, headingFor, headingBy, headingOf}
-use Rattle.survey_compass.proofs.Nearest.{mark-low, apart-low, rank-none, rank-some, least-had}
+use Rattle.survey_compass.proofs.Nearest.{mark-low, apart-low, rank-some, least-had}
 use Rattle.survey_compass.proofs.Reordered.{least-low, nearest-has, low, unranked}
 use Rattle.survey_compass.proofs.Turning.{turn-some, within-below, multiples}
 

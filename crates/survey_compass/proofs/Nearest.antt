@@ -5,13 +5,12 @@ use native.Mathlib.Nat.{mod-lt}
 use native.Mathlib.Numerals.{add-one}
 use native.Mathlib.Omega.{arith}
 use mathlib.Core.Path.{_≡_, refl, sym, ap, ap₂, _∙_}
-use mathlib.Core.Bool.{Bool, true, false}
+use mathlib.Core.Bool.{true, false}
 use mathlib.Core.List.{List, [], _∷_}
 use mathlib.Core.Logic.{_⊎_, inl, inr}
-use lib.Dec.{eqb}
 use borrow.Author.Tests.{eq-eqb, ne-eqb}
 use Rattle.base_lists.proofs.Finding.{first-least}
-use Rattle.survey_compass.specs.Directions.{pairs, markOf, markAt, apart, unlisted, rankOf, rankAt, leastTo, leastRank, isNearest, nearest}
+use Rattle.survey_compass.specs.Directions.{markOf, apart, unlisted, rankOf, rankAt, leastTo, leastRank, isNearest, nearest}
 
 -- a direction is one of 360
 pub mark-low : (l : List ℕ) → markOf l ≤ 360

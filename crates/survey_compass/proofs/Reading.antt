@@ -1,7 +1,7 @@
 -- How large the numbers are that are summed: a correction by its columns, a raw reading by the refusal of others.
 use Prim.Native.Nat.{ℕ, _+_, _-_, _*_, _^_, _≤_, _<_}
 use native.Mathlib.Omega.{arith}
-use native.Mathlib.Nat.{le-trans, mul-le-mul-left, one-le-pow, zero-lt-suc}
+use native.Mathlib.Nat.{mul-le-mul-left, one-le-pow, zero-lt-suc}
 use mathlib.Core.Path.{_≡_, refl, sym, ap, ap₂, subst, _∙_}
 use mathlib.Core.Bool.{Bool, true, false, _||_, cond, true≢false}
 use mathlib.Core.List.{List, [], _∷_}
@@ -9,7 +9,7 @@ use lib.Dec.{eqb, leb, ltb}
 use lib.IntN.{ℤ, natAbs}
 use denote.Enum.Declared.{tagOf}
 use types.Run.{OneOf, miss}
-use lib.ListN.{length, drop, length-take}
+use lib.ListN.{drop, length-take}
 use borrow.Author.Tests.{ltb-false, leb-false, lt-ltb, le-ltb, eq-eqb, ne-eqb}
 use Rattle.base_digits.specs.signs.Signs.{isMinus}
 use Rattle.base_value.specs.declared.Decimal.{Decimal}

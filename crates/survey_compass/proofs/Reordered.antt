@@ -1,5 +1,5 @@
 -- No answer depends on the order of a card's eight pairs.
-use Prim.Native.Nat.{ℕ, zero, suc, _+_, _-_, _*_, _%_, _≤_, _<_, min}
+use Prim.Native.Nat.{ℕ, zero, suc, _+_, _-_, _*_, _%_, _≤_, _<_}
 use native.Mathlib.Nat.{le-antisymm}
 use native.Mathlib.Decide.{ℕ-discrete}
 use native.Mathlib.Omega.{arith}
@@ -10,7 +10,7 @@ use mathlib.Core.Logic.{_⊎_, inl, inr}
 use lib.Dec.{eqb, ltb}
 use lib.IntN.{ℤ, natAbs}
 use borrow.Author.Tests.{eq-eqb, ne-eqb, eqb-true, ltb-false}
-use Rattle.base_lists.specs.Count.{count, first, Rearranged}
+use Rattle.base_lists.specs.Count.{count}
 use Rattle.base_lists.proofs.Counting.{count-some, count-one, none-pass}
 use Rattle.base_lists.proofs.Finding.{first-passes}
 use Rattle.base_lists.proofs.Moving.{all-stay, count-placed}
@@ -19,14 +19,14 @@ use Rattle.base_value.specs.Sums.{nothing, exactSum}
 use Rattle.base_refusal.specs.Refusals.{refusal}
 use Rattle.value_field.specs.declared.spelling.Spelling.the-variants as spelled
 use Rattle.value_field.specs.spelling.Reading.{readingOf}
-use Rattle.tie_rules.specs.Keys.{between, wholeKey, wholeIn}
+use Rattle.tie_rules.specs.Keys.{wholeKey, wholeIn}
 use Rattle.survey_compass.specs.Directions.{pairs, markOf, markAt, timesListed, isAgain, listedTwice, apart, unlisted, rankOf, rankAt, leastTo, leastRank, isNearest, nearest}
 use Rattle.survey_compass.specs.Corrections.{correctionOf, correctionIn, fixedOn, correctionAt, nearestOn, summedOn, turned}
 use Rattle.survey_compass.specs.declared.Heading.{Heading}
 use Rattle.survey_compass.specs.declared.Heading.the-variants.{Is, Refused}
 use Rattle.survey_compass.specs.Headings.{offCircle, badReading, headingOn}
 use Rattle.survey_compass.specs.Pairs.{Reordered}
-use Rattle.survey_compass.proofs.Nearest.{mark-low, apart-low, rank-some, rank-none, least-had, nearest-below}
+use Rattle.survey_compass.proofs.Nearest.{mark-low, rank-some, rank-none, least-had, nearest-below}
 
 -- two directions, counted from 1, of one rank
 pub low : (m : ℕ) → (m ≡ 0 → ⊥) → m ≤ 360 → m - 1 < 360

@@ -2,7 +2,7 @@
 use tie_rules::keys;
 ghost use mathlib.Core.Path.{_≡_};
 ghost use Prim.Native.Nat.{_≤_, _<_, min};
-ghost use Rattle.survey_compass.specs.Directions.{pairs, markAt, timesListed, isAgain, listedTwice, apart, unlisted, rankOf, rankAt, leastRank, nearest};
+ghost use Rattle.survey_compass.specs.Directions.{pairs, markAt, timesListed, isAgain, listedTwice, apart, rankOf, rankAt, leastRank, nearest};
 
 // How many pairs of a direction and a correction a card has, and how many columns lie from one to the next.
 pub const PAIRS: usize = 8;

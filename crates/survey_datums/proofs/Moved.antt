@@ -1,9 +1,9 @@
 -- Cards that change places: every datum is defined as often, has as many shifts, and its route goes by the same datums. Only the
 -- numbers of cards change.
-use Prim.Native.Nat.{ℕ, suc, _+_, _-_, _≤_, _<_}
+use Prim.Native.Nat.{ℕ, _+_, _-_, _<_}
 use native.Mathlib.Omega.{arith}
-use mathlib.Core.Path.{_≡_, refl, sym, ap, subst, _∙_}
-use mathlib.Core.Bool.{Bool, true, false, cond, _&&_, true≢false}
+use mathlib.Core.Path.{_≡_, refl, sym, ap, _∙_}
+use mathlib.Core.Bool.{Bool, true, false}
 use mathlib.Core.List.{List, [], _∷_, map}
 use lib.Dec.{ltb}
 use lib.ListN.{length}
@@ -12,10 +12,10 @@ use Rattle.base_lists.specs.Parts.{upTo}
 use Rattle.base_lists.proofs.Finding.{first-same}
 use Rattle.header_check.specs.forms.Cards.{cardAt, cardsIn}
 use Rattle.tie_laws.proofs.Moved.{as-many-cards, reordered, definitions-moved}
-use Rattle.survey_datums.specs.routing.Chains.{distance, next}
+use Rattle.survey_datums.specs.routing.Chains.{next}
 use Rattle.survey_datums.proofs.routing.Filling.{listed-same}
 use Rattle.survey_datums.proofs.routing.Fewest.{distance-same, next-same}
-use Rattle.survey_datums.specs.Datums.{timesDefined, isDefined, someTwice, isShift, joins, joining}
+use Rattle.survey_datums.specs.Datums.{timesDefined, isDefined, someTwice, joins, joining}
 use Rattle.survey_datums.specs.Chains.{Joined}
 use Rattle.survey_datums.specs.Answer.{shiftsTold}
 use Rattle.survey_datums.proofs.Chained.{by, by-lowest, lowest-joins, lowest-card}

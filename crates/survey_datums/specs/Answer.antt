@@ -1,18 +1,17 @@
 -- The answer: for each of the nine datums undefined, no route, or the number of shifts and the route's cards; or the refusal.
-use Prim.Native.Nat.{ℕ, _-_, _+_, _*_}
-use mathlib.Core.Bool.{Bool, cond, _&&_}
-use mathlib.Core.List.{List, [], _∷_, map}
+use Prim.Native.Nat.{ℕ, _-_}
+use mathlib.Core.Bool.{cond, _&&_}
+use mathlib.Core.List.{List, map}
 use lib.Dec.{eqb, leb, ltb}
-use lib.ListN.{getD, take, drop, replicate}
-use Rattle.base_lists.specs.Parts.{part, upTo}
+use lib.ListN.{getD, replicate}
+use Rattle.base_lists.specs.Parts.{upTo}
 use Rattle.base_refusal.specs.declared.Refusal.{Refusal}
 use Rattle.base_refusal.specs.Refusals.{refusal}
 use Rattle.header_check.specs.declared.Checked.{Checked}
 use Rattle.header_check.specs.declared.Checked.the-variants as checked
 use Rattle.header_check.specs.Refusing.{refusalOf}
-use Rattle.survey_datums.specs.routing.Chains.{datums, mostShifts, distance}
+use Rattle.survey_datums.specs.routing.Chains.{datums, distance}
 use Rattle.survey_datums.specs.routing.Tables.{entry, cardsOf}
-use Rattle.survey_datums.specs.declared.Answer.{Answer}
 use Rattle.survey_datums.specs.declared.Answer.the-variants.{Told, Refused}
 use Rattle.survey_datums.specs.declared.Routes.{Routes}
 use Rattle.survey_datums.specs.declared.Way.{Way}

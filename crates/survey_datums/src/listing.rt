@@ -1,6 +1,5 @@
 // The routes as a list of numbers: nine to a datum, its number of shifts and then eight cards.
 use crate::Answer;
-use crate::Routes;
 use crate::routing::CARDS;
 use crate::routing::DATUMS;
 use crate::routing::NO_ROUTE;

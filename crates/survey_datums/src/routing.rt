@@ -1,7 +1,6 @@
 // Routes to datum 1 over a nine by nine table of cards: the fewest shifts of each datum, and the cards of one such route. Datums are
 // counted from 0, so datum 1 is 0. It knows nothing of headers.
 ghost use mathlib.Core.Path.{_≡_};
-ghost use mathlib.Core.List.{[]};
 ghost use Prim.Native.Nat.{ℕ, _<_};
 ghost use lib.ListN.{getD};
 ghost use Rattle.survey_datums.specs.routing.Tables.{entry, distances, cardOf, cardsOf, nextIn, furtherBy, further, lengthIn};

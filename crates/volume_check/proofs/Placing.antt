@@ -1,11 +1,11 @@
 -- Lines of an accepted volume: how many there are, what the directory tells of each, and where it stands.
-use Prim.Native.Nat.{ℕ, zero, suc, _+_, _-_, _*_, _/_, _^_, _≤_, _<_}
+use Prim.Native.Nat.{ℕ, _+_, _-_, _*_, _/_, _^_, _≤_, _<_}
 use native.Mathlib.Omega.{arith}
 use mathlib.Core.Path.{_≡_, refl, sym, ap, ap₂, _∙_}
-use mathlib.Core.Bool.{Bool, true, false, cond, _&&_, false≢true}
+use mathlib.Core.Bool.{Bool, true, false, cond, _&&_}
 use mathlib.Core.List.{List, [], _∷_, _++_, append-assoc}
 use lib.Dec.{leb}
-use lib.ListN.{length, take, drop, getD, length-drop, length-append, take-append-drop}
+use lib.ListN.{length, take, drop, getD, length-drop, take-append-drop}
 use lib.Seq.{take-append-le, drop-append-le}
 use borrow.Author.Tests.{leb-true, le-leb, lt-leb}
 use Rattle.base_digits.proofs.digits.Bools.{and-left, and-right}
@@ -17,7 +17,7 @@ use Rattle.header_check.specs.forms.Cards.{cardsIn}
 use Rattle.volume_form.specs.Rows.{Row}
 use Rattle.volume_form.specs.Marked.{nameOf, sequenceOf, trailerCard, countOn, startOn}
 use Rattle.volume_form.proofs.Cards.{Good, start-entry, count-entry}
-use Rattle.volume_rules.specs.Volume.{joined, before, directory, volumeOf, Whole, Wholes}
+use Rattle.volume_rules.specs.Volume.{joined, before, directory, volumeOf, Wholes}
 use Rattle.volume_rules.specs.Sound.{firstOf, directoryOf, headersOf}
 use Rattle.volume_rules.specs.Judged.{volumeAnswer, Holds}
 use Rattle.volume_rules.proofs.Promises.{total}
@@ -30,7 +30,7 @@ use Rattle.volume_check.specs.declared.Found.{Found}
 use Rattle.volume_check.specs.declared.Found.the-variants.{Line, Refused}
 use Rattle.volume_check.specs.declared.Counted.the-variants as counted
 use Rattle.volume_check.specs.Answers.{linesOf, foundBy, placed, foundOf, partOf, lineOf}
-use Rattle.volume_check.specs.Steps.{toldAt, inside, Cards, Trailed}
+use Rattle.volume_check.specs.Steps.{toldAt, inside, Trailed}
 
 module _ (f : Row) (good : Good f) (n : ℕ) (buffer : List ℕ) (accepted : volumeAnswer f n buffer ≡ checked.Accepted) where
   abbrev v : List ℕ

@@ -1,6 +1,6 @@
 -- What a reader of a volume is answered.
 use Prim.Native.Nat.{ℕ, _+_, _-_, _*_}
-use mathlib.Core.Bool.{Bool, true, cond, _&&_}
+use mathlib.Core.Bool.{cond, _&&_}
 use mathlib.Core.List.{List, []}
 use lib.ListN.{length, take, drop, getD}
 use lib.Dec.{leb}

@@ -3,11 +3,10 @@ use Prim.Native.Nat.{ℕ, _+_, _-_, _*_, _/_, _^_, _≤_, _<_}
 use native.Mathlib.Nat.{pow-le-pow-right}
 use native.Mathlib.Omega.{arith}
 use mathlib.Core.Path.{_≡_, refl, sym, ap, ap₂, _∙_}
-use mathlib.Core.Bool.{Bool, true, false, cond}
+use mathlib.Core.Bool.{Bool, true, false}
 use mathlib.Core.List.{List, [], _∷_, _++_}
-use lib.ListN.{length, take, drop, length-append, take-append-drop}
-use lib.Seq.{drop-drop, take-at, drop-at}
-use lib.Dec.{eqb}
+use lib.ListN.{length, take, drop, take-append-drop}
+use lib.Seq.{drop-drop}
 use borrow.Author.Tests.{eq-eqb, ne-eqb}
 use Rattle.base_refusal.specs.declared.Refusal.{Refusal}
 use Rattle.base_refusal.specs.Refusals.{refusal}
@@ -19,14 +18,14 @@ use Rattle.volume_form.specs.Moved.{laidAt}
 use Rattle.volume_form.specs.Rows.{Row, rowOf}
 use Rattle.volume_form.specs.Marked.{trailerCard}
 use Rattle.volume_form.proofs.Cards.{Good, good-row, most-small, length-trailer}
-use Rattle.volume_rules.specs.Volume.{joined, directory, volumeOf, Whole, Wholes}
+use Rattle.volume_rules.specs.Volume.{joined, directory, volumeOf, Wholes}
 use Rattle.volume_rules.specs.Sound.{firstOf, headersOf}
 use Rattle.volume_rules.specs.Appended.{appended}
-use Rattle.volume_rules.specs.Judged.{unless, andThen, stated, headerAnswer, volumeAnswer, Accepteds, Holds}
+use Rattle.volume_rules.specs.Judged.{stated, headerAnswer, volumeAnswer, Holds}
 use Rattle.volume_rules.proofs.Promises.{total}
 use Rattle.volume_rules.proofs.Covering.{back}
 use Rattle.volume_rules.proofs.Exactly.{first-is, volume-long}
-use Rattle.volume_rules.proofs.Appending.{appended-volume, joined-append, joined-cards}
+use Rattle.volume_rules.proofs.Appending.{appended-volume}
 use Rattle.volume_rules.proofs.Judging.{Stated, stated-so, Taken, header-taken, then-passed, unless-passed, accepted-volume, taken-wholes}
 use Rattle.volume_check.specs.Steps as steps
 use Rattle.volume_check.proofs.Placing.{trailed, held, count-is}

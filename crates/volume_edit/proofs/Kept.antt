@@ -1,9 +1,9 @@
 -- A volume after an append: it is the volume of the headers with one more, each earlier line is as it was, and so is all behind it.
-use Prim.Native.Nat.{ℕ, zero, suc, _+_, _-_, _*_, _/_, _^_, _≤_, _<_}
+use Prim.Native.Nat.{ℕ, zero, suc, _+_, _-_, _*_, _^_, _≤_, _<_}
 use native.Mathlib.Nat.{not-suc-le-zero, le-of-suc-le-suc}
 use native.Mathlib.Omega.{arith}
-use mathlib.Core.Path.{_≡_, refl, sym, ap, ap₂, _∙_}
-use mathlib.Core.Bool.{true, false, cond, _&&_}
+use mathlib.Core.Path.{_≡_, refl, sym, ap, _∙_}
+use mathlib.Core.Bool.{cond, _&&_}
 use mathlib.Core.List.{List, [], _∷_, _++_}
 use lib.Dec.{leb}
 use lib.ListN.{length, take, drop, getD, length-append}
@@ -17,14 +17,14 @@ use Rattle.header_check.specs.Refusing.{refusalOf}
 use Rattle.volume_form.specs.declared.Form.{Form}
 use Rattle.volume_form.specs.Rows.{Row, rowOf}
 use Rattle.volume_form.proofs.Cards.{Good, good-row, most-some}
-use Rattle.volume_rules.specs.Volume.{joined, volumeOf, Whole, Wholes}
+use Rattle.volume_rules.specs.Volume.{joined, volumeOf, Wholes}
 use Rattle.volume_rules.specs.Sound.{headersOf}
-use Rattle.volume_rules.specs.Judged.{headerAnswer, volumeAnswer, Accepteds, Holds}
-use Rattle.volume_rules.proofs.Promises.{total, wholes-more}
+use Rattle.volume_rules.specs.Judged.{headerAnswer, Accepteds, Holds}
+use Rattle.volume_rules.proofs.Promises.{total}
 use Rattle.volume_rules.proofs.Covering.{back}
 use Rattle.volume_rules.proofs.Appending.{joined-append, only, cards-sum}
 use Rattle.volume_rules.proofs.Exactly.{volume-long}
-use Rattle.volume_rules.proofs.Judging.{Taken, header-taken, accepted-volume, volume-accepted, volume-tells, taken-wholes, not-refused}
+use Rattle.volume_rules.proofs.Judging.{header-taken, volume-accepted, volume-tells, taken-wholes, not-refused}
 use Rattle.volume_check.specs.declared.Counted.the-variants.{Lines}
 use Rattle.volume_check.specs.Answers.{linesOf, lineOf}
 use Rattle.volume_check.proofs.Placing.{line-is, lines-counted}

@@ -1,12 +1,12 @@
 -- The directory card and the trailer: they have 80 bytes, and their numbers stand where they are read.
-use Prim.Native.Nat.{ℕ, zero, suc, _+_, _-_, _*_, _/_, _^_, _≤_, _<_}
-use native.Mathlib.Nat.{lt-of-lt-of-le, pow-le-pow-right, mul-comm, add-comm}
+use Prim.Native.Nat.{ℕ, suc, _+_, _^_, _≤_, _<_}
+use native.Mathlib.Nat.{lt-of-lt-of-le, pow-le-pow-right}
 use native.Mathlib.Omega.{arith}
-use mathlib.Core.Path.{_≡_, refl, sym, ap, ap₂, _∙_}
+use mathlib.Core.Path.{_≡_, refl, ap, ap₂, _∙_}
 use mathlib.Core.Bool.{false}
 use mathlib.Core.List.{List, [], _∷_, _++_, append-assoc}
-use lib.ListN.{length, take, drop, replicate, length-append, length-replicate, length-take, length-drop}
-use lib.Seq.{take-at, drop-append-add, length-take-le, take-append-le, drop-append-le, take-take}
+use lib.ListN.{length, take, drop, length-append, length-replicate, length-drop}
+use lib.Seq.{take-at, drop-append-add, length-take-le, take-append-le, drop-append-le}
 use Rattle.base_lists.specs.Parts.{alike}
 use Rattle.volume_form.specs.declared.Form.{Form}
 use Rattle.volume_form.specs.declared.Form.the-variants.{Old, Wide}

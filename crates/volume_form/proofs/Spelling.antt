@@ -1,10 +1,10 @@
 -- A number is decided by its spelling: it reads as itself, so two spellings are equal only of one number, and columns hold
 -- some number's spelling exactly if they are the spelling of what stands there.
-use Prim.Native.Nat.{ℕ, zero, suc, _+_, _-_, _*_, _%_, _^_, _≤_, _<_}
+use Prim.Native.Nat.{ℕ, zero, suc, _+_, _-_, _%_, _^_, _≤_, _<_}
 use native.Mathlib.Nat.{mod-eq-of-lt, zero-add, zero-mul}
 use native.Mathlib.Omega.{arith}
 use mathlib.Core.Path.{_≡_, refl, sym, ap, _∙_}
-use mathlib.Core.List.{List, [], _∷_, _++_}
+use mathlib.Core.List.{List}
 use lib.ListN.{length, replicate, length-append, length-replicate}
 use Rattle.base_digits.specs.digits.Digits.{digits, size}
 use Rattle.base_digits.specs.digits.Figures.{valueFrom}

@@ -1,10 +1,9 @@
 -- Appending a header to a volume.
-use Prim.Native.Nat.{ℕ, zero, suc, _+_, _-_, _*_, _/_, _≤_, _<_}
-use native.Mathlib.Nat.{add-zero, add-assoc}
+use Prim.Native.Nat.{ℕ, _+_, _-_, _*_, _≤_}
 use native.Mathlib.Omega.{arith}
 use mathlib.Core.Path.{_≡_, refl, sym, ap, ap₂, _∙_}
 use mathlib.Core.List.{List, [], _∷_, _++_, append-assoc, append-nil}
-use lib.ListN.{length, take, drop, length-append, length-drop}
+use lib.ListN.{length, take, drop, length-append}
 use lib.Seq.{take-at, length-take-le, drop-at, drop-append-seam, take-append-seam, take-append-add, drop-append-add, drop-drop}
 use Rattle.volume_form.specs.Moved.{laidAt, moved}
 use Rattle.volume_form.proofs.moving.Moves.{laid-behind}

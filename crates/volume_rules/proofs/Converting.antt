@@ -1,10 +1,10 @@
 -- The walk that writes a directory in another form: the cards before a place are written, those from it on are as they were.
-use Prim.Native.Nat.{ℕ, zero, suc, _+_, _-_, _*_, _/_, _^_, _≤_, _<_}
+use Prim.Native.Nat.{ℕ, suc, _+_, _-_, _*_, _^_, _≤_, _<_}
 use native.Mathlib.Nat.{sub-zero}
 use native.Mathlib.Omega.{arith}
 use mathlib.Core.Path.{_≡_, refl, sym, ap, ap₂, _∙_}
-use mathlib.Core.Bool.{Bool, true, false, _&&_}
-use mathlib.Core.List.{List, [], _∷_, _++_, append-assoc, append-nil}
+use mathlib.Core.Bool.{true}
+use mathlib.Core.List.{List, [], _++_, append-assoc, append-nil}
 use lib.ListN.{length, take, drop, length-append, length-drop, take-append-drop, drop-of-length-le}
 use lib.Seq.{take-at, drop-at, length-take-le, take-add, drop-drop, drop-append-le, take-append-le}
 use Rattle.base_digits.proofs.digits.Bools.{and-left, and-right}
@@ -12,7 +12,7 @@ use Rattle.volume_form.specs.Moved.{laidAt}
 use Rattle.volume_form.proofs.moving.Moves.{laid-behind}
 use Rattle.volume_form.specs.Rows.{Row}
 use Rattle.volume_form.specs.Marked.{entryCard, trailerCard, countOn}
-use Rattle.volume_form.proofs.Cards.{Good, entry-longer, length-entry, length-trailer}
+use Rattle.volume_form.proofs.Cards.{Good, entry-longer, length-entry}
 use Rattle.header_check.specs.forms.Cards.{cardsIn}
 use Rattle.volume_rules.specs.Volume.{joined, directory, volumeOf}
 use Rattle.volume_rules.specs.Sound.{enters, covers, headersIn}

@@ -1,19 +1,18 @@
 -- A directory that covers some cards is the directory of the headers that it tells, and these are the cards; and back.
-use Prim.Native.Nat.{ℕ, zero, suc, _+_, _-_, _*_, _/_, _^_, _≤_, _<_}
-use native.Mathlib.Nat.{mul-suc, mul-zero, add-zero, mul-div-right, zero-div, add-assoc}
+use Prim.Native.Nat.{ℕ, zero, suc, _+_, _*_, _^_, _≤_, _<_}
 use native.Mathlib.Omega.{arith}
 use mathlib.Core.Path.{_≡_, refl, sym, ap, ap₂, _∙_}
-use mathlib.Core.Bool.{Bool, true, false, _&&_}
-use mathlib.Core.List.{List, [], _∷_, _++_, append-assoc, append-nil}
-use lib.Dec.{eqb, leb}
-use lib.ListN.{length, take, drop, length-append, length-take, length-drop, take-append-drop, drop-of-length-le}
-use lib.Seq.{take-at, drop-at, length-take-le, take-add, take-length, take-append-seam, drop-append-seam}
-use borrow.Author.Tests.{eq-eqb, eqb-true, le-leb, leb-true}
+use mathlib.Core.Bool.{true}
+use mathlib.Core.List.{List, [], _∷_, _++_}
+use lib.Dec.{leb}
+use lib.ListN.{length, take, drop, length-append, take-append-drop, drop-of-length-le}
+use lib.Seq.{take-at, drop-at, length-take-le, take-add}
+use borrow.Author.Tests.{eqb-true, le-leb, leb-true}
 use Rattle.base_digits.proofs.digits.Bools.{and-left, and-right}
 use Rattle.base_lists.specs.Parts.{alike}
 use Rattle.base_lists.proofs.Comparing.{alike-equal, equal-alike}
 use Rattle.volume_form.specs.Rows.{Row}
-use Rattle.volume_form.specs.Marked.{entryCard, trailerCard, countOn}
+use Rattle.volume_form.specs.Marked.{entryCard, countOn}
 use Rattle.header_check.specs.forms.Cards.{cardsIn}
 use Rattle.volume_rules.specs.Volume.{joined, directory, Whole, Wholes}
 use Rattle.volume_rules.specs.Sound.{enters, covers, headersIn}

@@ -1,21 +1,20 @@
 -- A reader takes some cards for a volume exactly if they are the volume of some headers; and then it tells these.
-use Prim.Native.Nat.{ℕ, zero, suc, _+_, _-_, _*_, _/_, _^_, _≤_, _<_}
+use Prim.Native.Nat.{ℕ, _+_, _-_, _*_, _^_, _≤_, _<_}
 use native.Mathlib.Omega.{arith}
 use mathlib.Core.Path.{_≡_, refl, sym, ap, ap₂, _∙_}
-use mathlib.Core.Bool.{Bool, true, false, _&&_}
-use mathlib.Core.List.{List, [], _∷_, _++_, append-assoc, append-nil}
-use lib.Dec.{eqb, leb}
+use mathlib.Core.Bool.{true}
+use mathlib.Core.List.{List, _++_, append-assoc}
+use lib.Dec.{leb}
 use lib.ListN.{length, take, drop, length-append, length-drop, take-append-drop}
-use lib.Seq.{take-at, drop-at, length-take-le, take-add, take-all, take-length, drop-drop, take-take}
+use lib.Seq.{take-at, drop-at, length-take-le, take-all, drop-drop, take-take}
 use borrow.Author.Tests.{le-leb, leb-true}
 use Rattle.base_digits.proofs.digits.Bools.{and-left, and-right}
-use Rattle.base_lists.specs.Parts.{alike}
 use Rattle.base_lists.proofs.Comparing.{alike-equal, equal-alike}
 use Rattle.volume_form.specs.Rows.{Row}
 use Rattle.volume_form.specs.Marked.{trailerCard, firstOn}
 use Rattle.header_check.specs.forms.Cards.{cardsIn}
-use Rattle.volume_rules.specs.Volume.{joined, directory, volumeOf, Whole, Wholes}
-use Rattle.volume_rules.specs.Sound.{points, covers, headersIn, lastCard, firstOf, bodyOf, directoryOf, headersOf, sound}
+use Rattle.volume_rules.specs.Volume.{joined, directory, volumeOf, Wholes}
+use Rattle.volume_rules.specs.Sound.{points, headersIn, lastCard, firstOf, bodyOf, directoryOf, headersOf, sound}
 use Rattle.volume_form.proofs.Cards.{Good, length-trailer, first-trailer}
 use Rattle.volume_rules.proofs.Covering.{cards-of, covered, back, Back}
 

@@ -1,7 +1,7 @@
 -- Cards as the paper shows them.
-use Prim.Native.Nat.{ℕ, _-_}
+use Prim.Native.Nat.{ℕ}
 use mathlib.Core.Path.{_≡_, refl}
-use mathlib.Core.List.{List, [], _∷_, _++_}
+use mathlib.Core.List.{List, [], _++_}
 use lib.ListN.{replicate}
 use Rattle.base_digits.specs.digits.Digits.{digits, sizeUpTo}
 use Rattle.format_layout.specs.Shape.{bytes}

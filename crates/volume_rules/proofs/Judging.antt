@@ -1,13 +1,13 @@
 -- A buffer is accepted exactly if it begins with the volume of headers that are accepted.
-use Prim.Native.Nat.{ℕ, zero, suc, _+_, _-_, _*_, _/_, _%_, _^_, _≤_, _<_}
+use Prim.Native.Nat.{ℕ, zero, suc, _+_, _-_, _*_, _%_, _^_, _≤_, _<_}
 use native.Mathlib.Omega.{arith}
 use mathlib.Core.Path.{_≡_, refl, sym, ap, ap₂, _∙_}
-use mathlib.Core.Bool.{Bool, true, false, cond, not, _&&_, _||_, false≢true}
-use mathlib.Core.List.{List, [], _∷_, _++_}
+use mathlib.Core.Bool.{Bool, true, false, cond, not, _&&_, false≢true}
+use mathlib.Core.List.{List, [], _∷_}
 use lib.ListN.{length, take, drop, length-take}
-use lib.Seq.{length-take-le, take-take, take-at, drop-at}
+use lib.Seq.{length-take-le, take-take}
 use lib.Dec.{eqb, leb, ltb}
-use borrow.Author.Tests.{le-leb, leb-true, lt-ltb, le-ltb, eq-eqb, ltb-false}
+use borrow.Author.Tests.{le-leb, leb-true, le-ltb, eq-eqb, ltb-false}
 use Rattle.base_digits.proofs.digits.Bools.{and-left, and-right}
 use Rattle.base_refusal.specs.declared.Refusal.{Refusal}
 use Rattle.base_refusal.specs.Refusals.{refusal}
@@ -17,9 +17,9 @@ use Rattle.header_check.specs.forms.Cards.{cardsIn}
 use Rattle.header_check.specs.Refusing.{refusalOf}
 use Rattle.header_laws.proofs.Exactly.{accepted-exactly}
 use Rattle.volume_form.specs.Rows.{Row}
-use Rattle.volume_form.specs.Marked.{entryCard, countOn}
+use Rattle.volume_form.specs.Marked.{countOn}
 use Rattle.volume_form.proofs.Cards.{Good, code-entry}
-use Rattle.volume_rules.specs.Volume.{joined, directory, volumeOf, Whole, Wholes}
+use Rattle.volume_rules.specs.Volume.{Whole, Wholes}
 use Rattle.volume_rules.specs.Sound.{points, mixed, enters, covers, lastCard, firstOf, bodyOf, directoryOf, headersOf, sound}
 use Rattle.volume_rules.specs.Judged.{unless, andThen, stated, headerAnswer, headersAnswer, partsAnswer, cardsAnswer, volumeAnswer, Accepteds, Holds}
 use Rattle.volume_rules.proofs.Covering.{entered}

@@ -2,10 +2,10 @@
 use Prim.Native.Nat.{ℕ, zero, suc, _+_, _-_, _*_, _^_, _≤_, _<_}
 use native.Mathlib.Nat.{not-suc-le-zero, le-of-suc-le-suc}
 use native.Mathlib.Omega.{arith}
-use mathlib.Core.Path.{_≡_, refl, sym, ap, ap₂, _∙_}
+use mathlib.Core.Path.{_≡_, refl, ap, _∙_}
 use mathlib.Core.List.{List, [], _∷_, _++_}
-use lib.ListN.{length, take, drop, getD, length-append}
-use lib.Seq.{drop-drop, take-at, drop-at, take-append-le, drop-append-add, drop-append-seam}
+use lib.ListN.{length, take, drop, getD}
+use lib.Seq.{drop-drop, take-at, drop-append-add}
 use Rattle.header_check.specs.forms.Cards.{cardsIn}
 use Rattle.volume_form.specs.Rows.{Row}
 use Rattle.volume_form.specs.Marked.{entryCard, countOn}

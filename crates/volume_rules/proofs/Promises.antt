@@ -1,6 +1,6 @@
 -- What the parts come to: reading after appending and converting.
-use Prim.Native.Nat.{ℕ, _+_, _-_, _*_, _^_, _≤_, _<_}
-use mathlib.Core.Path.{_≡_, refl, sym, ap, _∙_}
+use Prim.Native.Nat.{ℕ, _+_, _^_, _<_}
+use mathlib.Core.Path.{_≡_, ap, _∙_}
 use mathlib.Core.Bool.{true}
 use mathlib.Core.List.{List, [], _∷_, _++_}
 use lib.ListN.{length}
@@ -9,7 +9,7 @@ use Rattle.header_check.specs.forms.Cards.{cardsIn}
 use Rattle.volume_rules.specs.Volume.{joined, volumeOf, Whole, Wholes}
 use Rattle.volume_rules.specs.Sound.{headersOf, sound}
 use Rattle.volume_form.proofs.Cards.{Good}
-use Rattle.volume_rules.proofs.Exactly.{volume-sound, volume-told, sound-volume}
+use Rattle.volume_rules.proofs.Exactly.{volume-sound, volume-told}
 
 pub wholes-more : (hs : List (List ℕ)) (h : List ℕ) → Wholes hs → Whole h → Wholes (hs ++ (h ∷ []))
 wholes-more [] h ws w = (w, tt)

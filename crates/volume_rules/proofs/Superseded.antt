@@ -1,9 +1,9 @@
 -- Which lines are superseded, and how large they are, is told by their directory cards.
-use Prim.Native.Nat.{ℕ, zero, suc, _+_, _-_, _*_, _≤_, _<_}
+use Prim.Native.Nat.{ℕ, zero, suc, _+_, _*_, _≤_}
 use native.Mathlib.Omega.{arith}
 use mathlib.Core.Path.{_≡_, refl, sym, ap, ap₂, _∙_}
-use mathlib.Core.Bool.{Bool, true, false, _&&_, _||_}
-use mathlib.Core.List.{List, [], _∷_, _++_}
+use mathlib.Core.Bool.{true, _&&_, _||_}
+use mathlib.Core.List.{List}
 use lib.ListN.{length, take, drop, take-append-drop}
 use lib.Dec.{leb}
 use lib.Seq.{length-take-le}
@@ -13,7 +13,7 @@ use Rattle.volume_form.specs.Marked.{entryCard, countOn}
 use Rattle.volume_form.proofs.Cards.{Good, entry-longer, name-entry, sequence-entry}
 use Rattle.volume_rules.specs.Sound.{enters, covers, headersIn}
 use Rattle.volume_rules.specs.Latest.{superseded}
-use Rattle.volume_rules.specs.SameLine.{sameIn, sameLine, nameOn, sequenceOn, sameOn, supersededOn}
+use Rattle.volume_rules.specs.SameLine.{sameLine, nameOn, sequenceOn, sameOn, supersededOn}
 use Rattle.header_check.specs.forms.Cards.{cardsIn}
 use Rattle.volume_rules.specs.Converted.{few, fewOn}
 use Rattle.volume_rules.proofs.Covering.{cards-of, Entered, entered}

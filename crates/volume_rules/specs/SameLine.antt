@@ -1,5 +1,5 @@
 -- Two headers of the same line: equal names without trailing blanks and equal sequence numbers, as fields 1 and 2 of H0000 are read.
-use Prim.Native.Nat.{ℕ, zero, suc, _+_, _*_}
+use Prim.Native.Nat.{ℕ, zero, suc}
 use mathlib.Core.Bool.{Bool, false, _&&_, _||_}
 use mathlib.Core.List.{List}
 use lib.ListN.{take, drop}

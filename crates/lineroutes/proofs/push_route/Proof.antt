@@ -1,8 +1,7 @@
 -- `push_route` is safe and ends: each turn passes one of eight steps.
 use lib.ListN.{length}
-use mathlib.Core.Path.{_≡_, _∙_}
+use mathlib.Core.Path.{_≡_}
 use Prim.Native.Nat.{_≤_, _-_}
-use native.Mathlib.Omega.{arith}
 use borrow.Author.Needs.{needs}
 use Rattle.lineroutes.proofs.push_route.Statement.{statement}
 use Rattle.lineroutes.proofs.push_route.Tie as tie

@@ -1,8 +1,8 @@
 -- `media_diskette::lay_card` meets its contract: the line, and blanks behind it up to 80.
 use Prim.Native.Nat.{_+_}
-use mathlib.Core.Path.{_≡_, sym, ap, _∙_}
-use mathlib.Core.List.{List, _++_}
-use lib.ListN.{length, take, drop}
+use mathlib.Core.Path.{sym, ap, _∙_}
+use mathlib.Core.List.{_++_}
+use lib.ListN.{take, drop}
 use lib.Seq.{length-take-le}
 use denote.Ref.{now}
 use native.Mathlib.Omega.{arith}

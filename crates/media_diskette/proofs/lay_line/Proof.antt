@@ -1,10 +1,9 @@
 -- `media_diskette::lay_line` meets its contract: the text, and CR LF behind it.
-use mathlib.Core.Path.{sym, ap, _∙_}
+use mathlib.Core.Path.{ap}
 use lib.ListN.{length, length-set}
 use denote.Ref.{now}
 use native.Mathlib.Omega.{arith}
 use borrow.Author.Needs.{needs}
-use Rattle.media_diskette.specs.Lines.{lineOf}
 use Rattle.media_diskette.proofs.Laying.{text-two, line-laid}
 use Rattle.media_diskette.proofs.lay_line.Statement.{statement}
 use Rattle.media_diskette.proofs.lay_line.Tie as tie

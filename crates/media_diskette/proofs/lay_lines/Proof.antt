@@ -1,5 +1,5 @@
 -- `media_diskette::lay_lines` meets its contract: what was laid, and what is left to lay.
-use Prim.Native.Nat.{_+_, _*_, _-_, _/_, _≤_, _<_}
+use Prim.Native.Nat.{_+_, _*_, _-_, _/_, _≤_}
 use mathlib.Core.Path.{_≡_, sym, ap, _∙_}
 use mathlib.Core.List.{List, _++_}
 use Prim.Native.Nat.{ℕ}

@@ -1,11 +1,10 @@
 -- `media_diskette::measure` meets its contract: the answer for the cards that are left stays the same.
-use Prim.Native.Nat.{_+_, _*_, _-_, _/_, _≤_, _<_}
+use Prim.Native.Nat.{_+_, _*_, _-_, _/_, _≤_}
 use mathlib.Core.Path.{_≡_, sym, ap, _∙_}
 use lib.ListN.{length, drop}
 use denote.Ref.{now}
 use native.Mathlib.Omega.{arith}
 use borrow.Author.Needs.{needs}
-use Rattle.base_refusal.specs.Refusals.{refusal}
 use Rattle.media_diskette.specs.declared.Converted.the-variants.{Length, Refused}
 use Rattle.media_diskette.specs.Lines.{linesOf}
 use Rattle.media_diskette.specs.Answers.{refusedBy, badByte}

@@ -1,5 +1,4 @@
 -- `survey_compass::find_heading` meets its contract.
-use mathlib.Core.Path.{sym, ap, _∙_}
 use mir.ValLaws.{toZ-ofZ}
 use mir.Syntax.{w64}
 use denote.Ref.{now}

@@ -1,12 +1,10 @@
 -- `survey_compass::for_serial` meets its contract.
-use mathlib.Core.Path.{ap, _∙_}
 use Prim.Native.Nat.{_+_, _*_, _≤_}
 use lib.ListN.{length}
 use mir.ValLaws.{toZ-ofZ}
 use mir.Syntax.{w64}
 use denote.Ref.{now}
 use native.Mathlib.Omega.{arith}
-use Rattle.header_check.specs.forms.Cards.{cardsIn}
 use Rattle.header_check.proofs.forms.Steps.{card-ends, card-part}
 use Rattle.survey_compass.proofs.Listed.{length-part}
 use Rattle.survey_compass.proofs.Told.{cards-refused, place-low, card-told}

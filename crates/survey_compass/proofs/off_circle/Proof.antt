@@ -4,8 +4,6 @@ use mathlib.Core.Bool.{_||_}
 use lib.Dec.{ltb}
 use mir.ValLaws.{toZ-ofZ}
 use mir.Syntax.{w64}
-use lib.IntN.{natAbs}
-use Rattle.base_digits.specs.signs.Signs.{isMinus}
 use Rattle.survey_compass.specs.Headings.{offCircle}
 use borrow.Author.Needs.{needs}
 use Rattle.survey_compass.proofs.off_circle.Statement.{statement}

@@ -1,7 +1,6 @@
 -- `survey_datums::refused` meets its contract.
 use mathlib.Core.Path.{refl}
 use Rattle.survey_datums.specs.Answer.{refusedWith}
-use borrow.Author.Needs.{needs}
 use Rattle.survey_datums.proofs.refused.Statement.{statement}
 use Rattle.survey_datums.proofs.refused.Tie as tie
 

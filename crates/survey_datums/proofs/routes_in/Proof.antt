@@ -1,5 +1,4 @@
 -- `survey_datums::routes_in` meets its contract.
-use mathlib.Core.Path.{_≡_, sym, _∙_}
 use denote.Ref.{now}
 use Rattle.survey_datums.proofs.Answering.{told-twice, told-routes}
 use borrow.Author.Needs.{needs}

@@ -1,19 +1,19 @@
 -- The distance is the least length of any chain, however long: a shortest chain comes to no datum twice, so it has at most eight
 -- shifts. And where the route goes next.
 -- Assumes nothing.
-use Prim.Native.Nat.{ℕ, zero, suc, _+_, _≤_, _<_}
+use Prim.Native.Nat.{ℕ, zero, suc, _≤_, _<_}
 use native.Mathlib.Omega.{arith}
 use native.Mathlib.Decide.{decLt, ℕ-discrete}
 use mathlib.Core.Path.{_≡_, refl, sym, ap, subst, _∙_}
 use mathlib.Core.Bool.{Bool, true, false, _&&_, true≢false}
 use lib.Dec.{eqb, ltb}
 use borrow.Author.Tests.{eq-eqb, eqb-true}
-use Rattle.base_lists.specs.Count.{count, first}
+use Rattle.base_lists.specs.Count.{first}
 use Rattle.base_lists.proofs.Counting.{count-all}
-use Rattle.base_lists.proofs.Finding.{first-same, first-le, first-least, first-passes, first-below, first-none}
-use Rattle.base_lists.proofs.Moving.{Into, count-into}
+use Rattle.base_lists.proofs.Finding.{first-same, first-least, first-passes, first-below, first-none}
+use Rattle.base_lists.proofs.Moving.{count-into}
 use Rattle.base_digits.proofs.digits.Bools.{and-left, and-right, and-both}
-use Rattle.survey_datums.specs.routing.Chains.{datums, reach, distance, next}
+use Rattle.survey_datums.specs.routing.Chains.{reach, distance, next}
 use Rattle.survey_datums.proofs.routing.Levels.{led, reach-by, reach-next}
 
 module _ (g : ℕ → ℕ → ℕ) where

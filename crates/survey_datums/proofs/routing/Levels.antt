@@ -1,6 +1,6 @@
 -- Distances level by level: those of at most n shifts are known after n levels.
 -- Assumes nothing.
-use Prim.Native.Nat.{ℕ, zero, suc, _+_, _≤_, _<_}
+use Prim.Native.Nat.{ℕ, suc, _+_, _≤_, _<_}
 use native.Mathlib.Omega.{arith}
 use native.Mathlib.Decide.{decLt}
 use native.Mathlib.Numerals.{add-one}
@@ -14,7 +14,7 @@ use Rattle.base_lists.specs.Count.{first, firstFrom}
 use Rattle.base_lists.specs.Parts.{upTo}
 use Rattle.base_lists.proofs.Finding.{first-same, first-le, first-least, first-passes, first-below, first-unique, first-none}
 use Rattle.base_digits.proofs.digits.Bools.{and-left, and-right}
-use Rattle.survey_datums.specs.routing.Chains.{datums, reach, distance}
+use Rattle.survey_datums.specs.routing.Chains.{reach, distance}
 use Rattle.survey_datums.specs.routing.Tables.{entry, distances, nextIn, furtherBy, further}
 use Rattle.survey_datums.proofs.routing.Filling.{at-listed, listed-same}
 use Rattle.survey_datums.proofs.routing.Steps.{known-stays, now-known, not-yet}

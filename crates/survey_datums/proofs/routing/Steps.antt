@@ -1,16 +1,16 @@
 -- The scan for the next datum, step by step; and one datum's shifts at one level.
 -- Assumes nothing.
-use Prim.Native.Nat.{ℕ, zero, suc, _+_, _-_, _≤_, _<_}
+use Prim.Native.Nat.{ℕ, _+_, _-_, _<_}
 use native.Mathlib.Omega.{arith}
-use mathlib.Core.Path.{_≡_, refl, sym, ap, _∙_}
+use mathlib.Core.Path.{_≡_, sym, _∙_}
 use mathlib.Core.Bool.{Bool, true, false, _&&_}
 use mathlib.Core.List.{List}
 use lib.Dec.{eqb, ltb}
 use lib.ListN.{getD}
-use borrow.Author.Tests.{eq-eqb, ne-eqb, lt-ltb, le-ltb, lt-leb, le-leb}
+use borrow.Author.Tests.{eq-eqb, ne-eqb, lt-ltb, le-ltb}
 use Rattle.base_lists.specs.Count.{firstFrom}
 use Rattle.base_lists.proofs.Finding.{begins, stops, goes, over}
-use Rattle.survey_datums.specs.routing.Tables.{nextIn, furtherBy, lengthIn}
+use Rattle.survey_datums.specs.routing.Tables.{nextIn, furtherBy}
 
 module _ (row shifts : List ℕ) (n : ℕ) where
   abbrev pub fits : ℕ → Bool

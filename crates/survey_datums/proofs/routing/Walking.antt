@@ -1,16 +1,16 @@
 -- The walk along a route: rows that are there and rows that are not, and one step.
 -- Assumes nothing.
-use Prim.Native.Nat.{ℕ, zero, suc, _+_, _-_, _≤_, _<_}
+use Prim.Native.Nat.{ℕ, suc, _≤_, _<_}
 use native.Mathlib.Omega.{arith}
 use native.Mathlib.Decide.{decLt}
 use mathlib.Core.Path.{_≡_, refl, sym, ap, _∙_}
-use mathlib.Core.Bool.{Bool, true, false, _&&_, cond}
+use mathlib.Core.Bool.{_&&_}
 use mathlib.Core.List.{List, [], _∷_}
-use lib.Dec.{eqb, leb, ltb}
+use lib.Dec.{eqb, ltb}
 use lib.ListN.{length, getD, replicate, length-replicate, getD-replicate, List·getD-eq-default}
 use borrow.Author.Tests.{lt-ltb, le-ltb, le-leb, lt-leb}
-use Rattle.base_lists.proofs.Finding.{first-same, first-le}
-use Rattle.survey_datums.specs.routing.Chains.{datums, distance, next, route, routeFrom}
+use Rattle.base_lists.proofs.Finding.{first-same}
+use Rattle.survey_datums.specs.routing.Chains.{distance, next, route, routeFrom}
 use Rattle.survey_datums.specs.routing.Tables.{entry, distances, cardOf, nextIn, lengthIn}
 use Rattle.survey_datums.proofs.routing.Filling.{at-listed}
 

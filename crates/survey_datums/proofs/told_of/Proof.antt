@@ -1,7 +1,6 @@
 -- `survey_datums::told_of` meets its contract.
 use native.Mathlib.Omega.{arith}
 use borrow.Author.Tests.{lt-ltb}
-use borrow.Author.Needs.{needs}
 use Rattle.survey_datums.proofs.told_of.Statement.{statement}
 use Rattle.survey_datums.proofs.told_of.Tie as tie
 

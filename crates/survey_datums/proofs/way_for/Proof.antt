@@ -2,7 +2,6 @@
 use native.Mathlib.Omega.{arith}
 use borrow.Author.Tests.{lt-ltb, le-ltb, eq-eqb, ne-eqb}
 use Rattle.survey_datums.specs.Answer.{wayFor}
-use borrow.Author.Needs.{needs}
 use Rattle.survey_datums.proofs.way_for.Statement.{statement}
 use Rattle.survey_datums.proofs.way_for.Tie as tie
 

@@ -1,7 +1,6 @@
 -- `volume_check::cards_from` meets its contract.
 use Prim.Native.Nat.{_*_, _-_}
 use Rattle.volume_check.proofs.judging.Headers.{part-long}
-use native.Mathlib.Omega.{arith}
 use borrow.Author.Needs.{needs}
 use Rattle.volume_check.proofs.cards_from.Statement.{statement}
 use Rattle.volume_check.proofs.cards_from.Tie as tie

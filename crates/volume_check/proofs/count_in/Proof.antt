@@ -1,13 +1,12 @@
 -- `volume_check::count_in` meets its contract.
 use denote.Ref.{now}
-use mathlib.Core.Path.{_≡_, refl, sym, ap, _∙_}
+use mathlib.Core.Path.{sym, ap, _∙_}
 use Rattle.volume_form.specs.Rows.{rowOf}
 use Rattle.volume_form.proofs.Cards.{good-row}
 use Prim.Native.Nat.{_-_}
 use Rattle.volume_check.proofs.Placing.{held, trailed, count-is}
 use Rattle.volume_check.proofs.judging.Parts.{before-last}
 use native.Mathlib.Omega.{arith}
-use borrow.Author.Needs.{needs}
 use Rattle.volume_check.proofs.count_in.Statement.{statement}
 use Rattle.volume_check.proofs.count_in.Tie as tie
 

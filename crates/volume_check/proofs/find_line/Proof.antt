@@ -1,11 +1,9 @@
 -- `volume_check::find_line` meets its contract.
-use mathlib.Core.Path.{_≡_, refl, sym, ap, _∙_}
+use mathlib.Core.Path.{sym, ap, _∙_}
 use denote.Ref.{now}
 use Rattle.volume_check.proofs.Placing.{found-placed, found-refused}
 use Rattle.volume_check.specs.Answers.{foundOf}
-use Rattle.volume_form.proofs.Cards.{good-row}
 use Rattle.volume_form.specs.Rows.{rowOf}
-use native.Mathlib.Omega.{arith}
 use borrow.Author.Needs.{needs}
 use Rattle.volume_check.proofs.find_line.Statement.{statement}
 use Rattle.volume_check.proofs.find_line.Tie as tie

@@ -1,13 +1,13 @@
 -- What the walk over the headers knows, and the steps of judging one header or a trailer.
-use Prim.Native.Nat.{ℕ, zero, suc, _+_, _-_, _*_, _/_, _%_, _≤_, _<_}
+use Prim.Native.Nat.{ℕ, suc, _+_, _-_, _*_, _/_, _%_, _≤_, _<_}
 use native.Mathlib.Omega.{arith}
-use mathlib.Core.Path.{_≡_, refl, sym, ap, _∙_}
-use mathlib.Core.Bool.{Bool, true, false, cond, _&&_}
-use mathlib.Core.List.{List, [], _∷_}
+use mathlib.Core.Path.{_≡_, sym, ap, _∙_}
+use mathlib.Core.Bool.{Bool, true, false, _&&_}
+use mathlib.Core.List.{List}
 use lib.Dec.{eqb, leb, ltb}
 use lib.ListN.{length, take, drop}
 use borrow.Author.Tests.{le-leb, lt-leb, leb-true}
-use Rattle.base_digits.proofs.digits.Bools.{and-left, and-right}
+use Rattle.base_digits.proofs.digits.Bools.{and-left}
 use Rattle.base_lists.specs.Parts.{alike}
 use Rattle.base_refusal.specs.declared.Refusal.{Refusal}
 use Rattle.base_refusal.specs.Refusals.{refusal}
@@ -16,7 +16,7 @@ use Rattle.header_check.specs.declared.Checked.the-variants.{Accepted, Refused}
 use Rattle.header_check.specs.forms.Cards.{cardsIn}
 use Rattle.header_check.specs.Refusing.{refusalOf}
 use Rattle.volume_form.specs.Rows.{Row}
-use Rattle.volume_form.specs.Marked.{entryCard, trailerCard, countOn, firstOn}
+use Rattle.volume_form.specs.Marked.{trailerCard, countOn, firstOn}
 use Rattle.volume_rules.specs.Sound.{points, enters, covers, headersIn}
 use Rattle.volume_rules.specs.Judged.{headerAnswer, headersAnswer}
 use Rattle.volume_rules.proofs.Lines.{headers-goes, headers-end}

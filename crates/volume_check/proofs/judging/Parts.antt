@@ -10,18 +10,17 @@ use lib.Dec.{leb}
 use borrow.Author.Tests.{le-leb, lt-leb}
 use Rattle.base_refusal.specs.Refusals.{refusal}
 use Rattle.header_check.specs.declared.Checked.{Checked}
-use Rattle.header_check.specs.declared.Checked.the-variants.{Accepted, Refused}
+use Rattle.header_check.specs.declared.Checked.the-variants.{Refused}
 use Rattle.header_check.specs.forms.Cards.{cardsIn}
 use Rattle.volume_form.specs.Rows.{Row}
 use Rattle.volume_form.proofs.Cards.{Good}
 use Rattle.volume_rules.specs.Sound.{points, mixed, covers, headersIn, lastCard, firstOf, bodyOf, directoryOf, headersOf}
 use Rattle.volume_rules.specs.Judged.{unless, stated, headersAnswer, partsAnswer, cardsAnswer, volumeAnswer, formIn}
 use Rattle.base_lists.specs.Parts.{alike}
-use Rattle.volume_form.specs.declared.Form.{Form}
 use Rattle.volume_form.specs.declared.Form.the-variants.{Old, Wide}
 use Rattle.volume_form.specs.Rows.{rowOf}
 use Rattle.volume_rules.proofs.Exactly.{Pointed, pointed}
-use Rattle.volume_rules.proofs.Judging.{Stated, stated-so, front-long}
+use Rattle.volume_rules.proofs.Judging.{stated-so}
 use Rattle.volume_check.specs.Steps.{Cards, Trailed}
 
 -- the last card

@@ -1,6 +1,6 @@
 -- `volume_check::line` meets its contract.
 use denote.Ref.{now}
-use mathlib.Core.Path.{_≡_, refl, sym, ap, _∙_}
+use mathlib.Core.Path.{ap, _∙_}
 use lib.ListN.{length}
 use Rattle.volume_check.specs.Answers.{partOf, lineOf}
 use Rattle.volume_check.specs.Steps.{inside}
@@ -8,7 +8,6 @@ use Rattle.volume_check.proofs.Placing.{found-inside}
 use Rattle.volume_rules.specs.Judged.{formIn}
 use Rattle.volume_form.proofs.Cards.{good-row}
 use Rattle.volume_form.specs.Rows.{rowOf}
-use native.Mathlib.Omega.{arith}
 use borrow.Author.Needs.{needs}
 use Rattle.volume_check.proofs.line.Statement.{statement}
 use Rattle.volume_check.proofs.line.Tie as tie

@@ -1,10 +1,9 @@
 -- `volume_check::line_at` meets its contract.
-use mathlib.Core.Path.{_≡_, refl, sym, ap, _∙_}
+use mathlib.Core.Path.{ap, _∙_}
 use denote.Ref.{now}
 use Rattle.volume_form.specs.Rows.{rowOf}
 use Rattle.volume_check.specs.declared.Found.the-variants.{Refused}
 use Rattle.volume_check.proofs.Placing.{told-zero, told-past, told-there}
-use native.Mathlib.Omega.{arith}
 use borrow.Author.Needs.{needs}
 use Rattle.volume_check.proofs.line_at.Statement.{statement}
 use Rattle.volume_check.proofs.line_at.Tie as tie

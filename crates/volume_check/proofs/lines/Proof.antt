@@ -1,11 +1,9 @@
 -- `volume_check::lines` meets its contract.
-use mathlib.Core.Path.{_≡_, refl, sym, ap, _∙_}
+use mathlib.Core.Path.{sym, ap, _∙_}
 use denote.Ref.{now}
 use Rattle.volume_check.proofs.Placing.{lines-counted, lines-refused}
 use Rattle.volume_check.specs.Answers.{linesOf}
-use Rattle.volume_form.proofs.Cards.{good-row}
 use Rattle.volume_form.specs.Rows.{rowOf}
-use native.Mathlib.Omega.{arith}
 use borrow.Author.Needs.{needs}
 use Rattle.volume_check.proofs.lines.Statement.{statement}
 use Rattle.volume_check.proofs.lines.Tie as tie

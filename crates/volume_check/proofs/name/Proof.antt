@@ -1,6 +1,6 @@
 -- `volume_check::name` meets its contract.
 use denote.Ref.{now}
-use mathlib.Core.Path.{_≡_, refl, sym, ap, _∙_}
+use mathlib.Core.Path.{ap, _∙_}
 use Rattle.volume_check.proofs.Placing.{some-there, none-name}
 use Rattle.volume_form.specs.Marked.{nameOf}
 use Rattle.volume_rules.specs.Judged.{formIn}

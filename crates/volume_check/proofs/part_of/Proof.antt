@@ -1,9 +1,8 @@
 -- `volume_check::part_of` meets its contract.
 use denote.Ref.{now}
-use mathlib.Core.Path.{_≡_, refl, sym, ap, _∙_}
+use mathlib.Core.Path.{sym, ap, _∙_}
 use Rattle.volume_check.proofs.Placing.{line-inside}
 use Rattle.volume_check.specs.Answers.{partOf}
-use native.Mathlib.Omega.{arith}
 use borrow.Author.Needs.{needs}
 use Rattle.volume_check.proofs.part_of.Statement.{statement}
 use Rattle.volume_check.proofs.part_of.Tie as tie

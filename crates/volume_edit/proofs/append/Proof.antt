@@ -2,17 +2,13 @@ use denote.Ref.{now}
 use Prim.Native.Nat.{_*_}
 use lib.ListN.{take}
 use mathlib.Core.List.{[], _∷_, _++_}
-use mathlib.Core.Path.{_≡_, refl, sym, ap, ap₂, _∙_}
+use mathlib.Core.Path.{ap, _∙_}
 use Rattle.volume_form.specs.Rows.{rowOf}
 use Rattle.volume_rules.specs.Sound.{headersOf}
 use Rattle.volume_edit.specs.Written.{appendAnswer, leftBy}
 use borrow.Author.Needs.{needs}
 use Rattle.volume_edit.proofs.append.Statement.{statement}
 use Rattle.volume_edit.proofs.append.Tie as tie
-use Rattle.volume_edit.proofs.append.Reads as reads
-use Rattle.volume_edit.proofs.append.Lts as lts
-use Rattle.volume_check.proofs.judging.form_of.Reads as form-of-reads
-use Rattle.volume_edit.proofs.append_to.Reads as append-to-reads
 
 -- src/lib.rt:140:9
 form-of-requires : tie.Need-form-of-requires

@@ -1,9 +1,8 @@
 -- `volume_edit::append_to` meets its contract.
 use denote.Ref.{now}
-use mathlib.Core.Path.{_≡_, refl, sym, ap, _∙_}
+use mathlib.Core.Path.{refl, sym, _∙_}
 use Rattle.volume_form.specs.Rows.{rowOf}
 use Rattle.volume_edit.proofs.Appends.{append-done, append-refused}
-use native.Mathlib.Omega.{arith}
 use borrow.Author.Needs.{needs}
 use Rattle.volume_edit.proofs.append_to.Statement.{statement}
 use Rattle.volume_edit.proofs.append_to.Tie as tie

@@ -1,9 +1,8 @@
 -- `volume_edit::judge_append` meets its contract.
 use denote.Ref.{now}
-use mathlib.Core.Path.{_≡_, refl, sym, ap, _∙_}
+use mathlib.Core.Path.{sym, _∙_}
 use Rattle.volume_form.specs.Rows.{rowOf}
 use Rattle.volume_edit.proofs.Appends.{few-cards, volume-good, volume-refused}
-use native.Mathlib.Omega.{arith}
 use borrow.Author.Needs.{needs}
 use Rattle.volume_edit.proofs.judge_append.Statement.{statement}
 use Rattle.volume_edit.proofs.judge_append.Tie as tie

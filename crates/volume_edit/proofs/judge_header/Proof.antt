@@ -1,10 +1,9 @@
 -- `volume_edit::judge_header` meets its contract.
 use denote.Ref.{now}
-use mathlib.Core.Path.{_≡_, refl, sym, ap, _∙_}
+use mathlib.Core.Path.{ap, _∙_}
 use Rattle.volume_form.specs.Rows.{rowOf}
 use Rattle.header_check.specs.declared.Checked.the-variants.{Refused}
 use Rattle.volume_edit.proofs.Appends.{header-refused, room-left, no-room}
-use native.Mathlib.Omega.{arith}
 use borrow.Author.Needs.{needs}
 use Rattle.volume_edit.proofs.judge_header.Statement.{statement}
 use Rattle.volume_edit.proofs.judge_header.Tie as tie

@@ -1,6 +1,6 @@
 -- `volume_edit::lay_empty` meets its contract.
 use denote.Ref.{now}
-use mathlib.Core.Path.{_≡_, refl, sym, ap, _∙_}
+use mathlib.Core.Path.{refl, ap, _∙_}
 use Rattle.volume_edit.specs.declared.Volume.the-variants.{Refused}
 use Rattle.volume_form.specs.declared.Form.the-variants.{Old}
 use Rattle.volume_edit.proofs.Appends.{empty-refused, one-small, empty-laid}

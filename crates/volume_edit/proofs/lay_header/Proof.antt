@@ -1,6 +1,5 @@
 -- `volume_edit::lay_header` meets its contract.
 use Rattle.volume_edit.proofs.Writes.{writes}
-use native.Mathlib.Omega.{arith}
 use borrow.Author.Needs.{needs}
 use Rattle.volume_edit.proofs.lay_header.Statement.{statement}
 use Rattle.volume_edit.proofs.lay_header.Tie as tie

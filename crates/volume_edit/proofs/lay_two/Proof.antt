@@ -1,15 +1,11 @@
 use lib.ListN.{length}
 use Prim.Native.Nat.{_+_}
 use denote.Ref.{now}
-use Rattle.volume_form.specs.Moved.{laidAt, moved}
-use mathlib.Core.Path.{_≡_, refl, ap, sym, _∙_}
-use native.Mathlib.Omega.{arith}
+use Rattle.volume_form.specs.Moved.{laidAt}
+use mathlib.Core.Path.{ap, _∙_}
 use borrow.Author.Needs.{needs}
 use Rattle.volume_edit.proofs.lay_two.Statement.{statement}
 use Rattle.volume_edit.proofs.lay_two.Tie as tie
-use Rattle.volume_edit.proofs.lay_two.Reads as reads
-use Rattle.volume_edit.proofs.lay_two.Lts as lts
-use Rattle.volume_form.proofs.moving.lay.Reads as lay-reads
 
 -- src/lib.rt:40:16
 add-next : tie.Need-add-next

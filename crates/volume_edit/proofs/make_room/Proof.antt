@@ -1,14 +1,9 @@
 use denote.Ref.{now}
-use Rattle.volume_form.specs.Moved.{laidAt, moved}
-use mathlib.Core.Path.{_≡_, refl, ap, sym, _∙_}
-use native.Mathlib.Omega.{arith}
+use Rattle.volume_form.specs.Moved.{laidAt}
+use mathlib.Core.Path.{ap, _∙_}
 use borrow.Author.Needs.{needs}
 use Rattle.volume_edit.proofs.make_room.Statement.{statement}
 use Rattle.volume_edit.proofs.make_room.Tie as tie
-use Rattle.volume_edit.proofs.make_room.Reads as reads
-use Rattle.volume_edit.proofs.make_room.Lts as lts
-use Rattle.volume_form.proofs.moving.lay.Reads as lay-reads
-use Rattle.volume_form.proofs.moving.move_up.Reads as move-up-reads
 
 -- src/lib.rt:30:14
 add-to : tie.Need-add-to

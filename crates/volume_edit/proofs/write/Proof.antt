@@ -1,6 +1,6 @@
 -- `volume_edit::write` meets its contract.
 use denote.Ref.{now}
-use mathlib.Core.Path.{_≡_, refl, sym, ap, _∙_}
+use mathlib.Core.Path.{refl, sym}
 use Rattle.volume_edit.proofs.Appends.{may-held, may-cards, may-count, first-within, may-fit, left-is}
 use native.Mathlib.Omega.{arith}
 use borrow.Author.Needs.{needs}

@@ -3,8 +3,6 @@ use Rattle.volume_form.specs.Rows.{rowOf}
 use borrow.Author.Needs.{needs}
 use Rattle.volume_form.proofs.largest_of.Statement.{statement}
 use Rattle.volume_form.proofs.largest_of.Tie as tie
-use Rattle.volume_form.proofs.largest_of.Reads as reads
-use Rattle.volume_form.proofs.largest_of.Lts as lts
 
 -- src/lib.rt:42:22
 enum-told : tie.Need-enum-told

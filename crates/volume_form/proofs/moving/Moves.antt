@@ -1,15 +1,14 @@
 -- Laws of `moved` and `laidAt`: what one store does to the work that remains.
 -- Assumes nothing.
-use mathlib.Core.Path.{_≡_, refl, sym, _∙_, ap, ap₂}
+use mathlib.Core.Path.{_≡_, sym, _∙_, ap, ap₂}
 use mathlib.Core.List.{List, [], _∷_, _++_, append-assoc, append-nil}
 use Prim.Native.Nat.{ℕ, zero, suc, _+_, _-_, _≤_, _<_}
-use native.Mathlib.Nat.{add-zero, add-suc, suc-add}
-use native.Mathlib.Numerals.{add-one}
+use native.Mathlib.Nat.{add-zero, add-suc}
 use native.Mathlib.Omega.{arith}
-use lib.ListN.{length, take, drop, set, getD, replicate, length-append, length-drop, length-set, take-append-drop, drop-of-length-le}
+use lib.ListN.{length, take, drop, set, getD, replicate, length-append, length-drop, take-append-drop, drop-of-length-le}
 use borrow.Rule.Slice.PartMut.{putMid}
 use lib.ListN.{length-replicate}
-use lib.Seq.{take-all, take-at, drop-append-add, drop-drop, take-append-seam, drop-cons, take-suc, getD-drop, drop-set-lt, drop-set-add, take-set-le, take-suc-set, getD-set-same, lt-length-set, length-take-le, drop-length}
+use lib.Seq.{take-all, take-at, drop-append-add, drop-drop, take-append-seam, drop-cons, take-suc, getD-drop, drop-set-lt, drop-set-add, take-set-le, take-suc-set, getD-set-same, lt-length-set, length-take-le}
 use Rattle.volume_form.specs.Moved.{laidAt, moved}
 
 module _ {ℓ} {A : Type ℓ} where

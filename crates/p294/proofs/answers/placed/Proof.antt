@@ -2,7 +2,6 @@
 use mathlib.Core.Path.{refl}
 use Rattle.p294.proofs.answers.Steps.{back, alike}
 use Rattle.p294.specs.answers.Replies.{lineReply}
-use native.Mathlib.Omega.{arith}
 use borrow.Author.Needs.{needs}
 use Rattle.p294.proofs.answers.placed.Statement.{statement}
 use Rattle.p294.proofs.answers.placed.Tie as tie

@@ -1,8 +1,8 @@
 -- `survey_compass::corrections::corrected` meets its contract.
-use mathlib.Core.Path.{ap, ap₂, _∙_}
+use mathlib.Core.Path.{ap, _∙_}
 use denote.Ref.{now}
 use native.Mathlib.Omega.{arith}
-use Rattle.survey_compass.specs.Corrections.{fixedOn, turned}
+use Rattle.survey_compass.specs.Corrections.{turned}
 use Rattle.survey_compass.proofs.Reading.{summed}
 use borrow.Author.Needs.{needs}
 use Rattle.survey_compass.proofs.corrections.corrected.Statement.{statement}

@@ -1,7 +1,6 @@
 -- `survey_compass::corrections::correction_at` meets its contract.
 use native.Mathlib.Omega.{arith}
 use Rattle.survey_compass.specs.Corrections.{correctionAt}
-use borrow.Author.Needs.{needs}
 use Rattle.survey_compass.proofs.corrections.correction_at.Statement.{statement}
 use Rattle.survey_compass.proofs.corrections.correction_at.Tie as tie
 

@@ -1,5 +1,4 @@
 -- `survey_compass::corrections::into_circle` meets its contract.
-use mathlib.Core.Path.{ap, _∙_}
 use mir.ValLaws.{toZ-ofZ}
 use mir.Syntax.{w64}
 use native.Mathlib.Omega.{arith}

@@ -1,11 +1,10 @@
 -- `survey_compass::corrections::nearest_on` meets its contract.
 use Rattle.base_value.specs.Sums.{nothing}
-use mathlib.Core.Path.{sym, _∙_}
+use mathlib.Core.Path.{_∙_}
 use denote.Ref.{now}
 use native.Mathlib.Omega.{arith}
 use Rattle.survey_compass.proofs.Nearest.{nearest-below}
 use Rattle.survey_compass.proofs.Reading.{none-used, one-used}
-use borrow.Author.Needs.{needs}
 use Rattle.survey_compass.proofs.corrections.nearest_on.Statement.{statement}
 use Rattle.survey_compass.proofs.corrections.nearest_on.Tie as tie
 

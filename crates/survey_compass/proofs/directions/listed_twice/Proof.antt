@@ -1,12 +1,12 @@
 -- `survey_compass::directions::listed_twice` meets its contract.
 use Prim.Native.Nat.{_≤_, _-_}
 use mathlib.Core.Path.{_≡_, refl, ap, _∙_}
-use lib.Dec.{eqb, ltb}
+use lib.Dec.{ltb}
 use denote.Ref.{now}
 use native.Mathlib.Omega.{arith}
 use Rattle.base_lists.specs.Count.{count}
 use Rattle.base_lists.proofs.Counting.{count-le}
-use Rattle.survey_compass.specs.Directions.{markAt, timesListed, isAgain, listedTwice}
+use Rattle.survey_compass.specs.Directions.{isAgain, listedTwice}
 use Rattle.survey_compass.proofs.Listed.{tallied}
 use borrow.Author.Needs.{needs}
 use Rattle.survey_compass.proofs.directions.listed_twice.Statement.{statement}

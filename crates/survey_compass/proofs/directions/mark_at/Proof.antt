@@ -1,6 +1,5 @@
 -- `survey_compass::directions::mark_at` meets its contract.
 use Prim.Native.Nat.{_-_}
-use denote.Ref.{now}
 use native.Mathlib.Omega.{arith}
 use native.Mathlib.Nat.{mod-lt}
 use Rattle.survey_compass.specs.Directions.{markAt}

@@ -1,7 +1,6 @@
 -- `survey_compass::directions::rank_at` meets its contract.
 use mathlib.Core.Path.{ap, _∙_}
 use Rattle.survey_compass.specs.Directions.{rankOf, rankAt}
-use borrow.Author.Needs.{needs}
 use Rattle.survey_compass.proofs.directions.rank_at.Statement.{statement}
 use Rattle.survey_compass.proofs.directions.rank_at.Tie as tie
 

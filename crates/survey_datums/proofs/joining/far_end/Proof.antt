@@ -1,5 +1,5 @@
 -- `survey_datums::joining::far_end` meets its contract.
-use mathlib.Core.Path.{_≡_, sym, _∙_}
+use mathlib.Core.Path.{sym, _∙_}
 use denote.Ref.{now}
 use borrow.Author.Tests.{eq-eqb, ne-eqb}
 use Rattle.header_check.specs.forms.Cards.{layoutOf}

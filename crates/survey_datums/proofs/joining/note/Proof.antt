@@ -1,6 +1,6 @@
 -- `survey_datums::joining::note` meets its contract.
 use native.Mathlib.Omega.{arith}
-use mathlib.Core.Path.{sym, _∙_}
+use mathlib.Core.Path.{_∙_}
 use lib.ListN.{length-set}
 use Rattle.survey_datums.proofs.Noting.{no-end, to-itself, not-defined, lower-stays, now-noted}
 use borrow.Author.Needs.{needs}

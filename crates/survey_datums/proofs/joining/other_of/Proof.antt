@@ -1,5 +1,4 @@
 -- `survey_datums::joining::other_of` meets its contract.
-use native.Mathlib.Omega.{arith}
 use Prim.Native.Nat.{_+_}
 use borrow.Author.Tests.{eq-eqb, ne-eqb}
 use Rattle.survey_datums.specs.packed.Ends.{otherOf}

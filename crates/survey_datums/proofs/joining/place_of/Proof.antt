@@ -1,10 +1,6 @@
 -- `survey_datums::joining::place_of` meets its contract.
-use native.Mathlib.Omega.{arith}
-use lib.Dec.{eqb, ltb}
-use mathlib.Core.Bool.{_||_}
 use Rattle.survey_datums.specs.packed.Ends.{placeOf}
 use Rattle.survey_datums.proofs.Placing.{at-least-one}
-use borrow.Author.Needs.{needs}
 use Rattle.survey_datums.proofs.joining.place_of.Statement.{statement}
 use Rattle.survey_datums.proofs.joining.place_of.Tie as tie
 

@@ -2,10 +2,8 @@
 use Prim.Native.Nat.{ℕ, _+_, _*_, _-_, _/_, _≤_, _<_}
 use native.Mathlib.Omega.{arith}
 use mathlib.Core.Path.{_≡_, refl, sym, ap, _∙_}
-use mathlib.Core.List.{map}
-use lib.ListN.{length, getD, replicate, getD-replicate}
+use lib.ListN.{length, getD, getD-replicate}
 use denote.Ref.{now}
-use Rattle.base_lists.specs.Parts.{upTo}
 use Rattle.header_check.specs.forms.Cards.{cardsIn}
 use Rattle.header_check.proofs.forms.Steps.{card-part, card-ends}
 use Rattle.header_laws.proofs.Accepted.{few-cards}

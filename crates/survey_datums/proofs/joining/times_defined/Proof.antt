@@ -1,11 +1,5 @@
 -- `survey_datums::joining::times_defined` meets its contract.
-use mathlib.Core.Path.{_≡_, refl, sym, ap, _∙_}
-use mathlib.Core.List.{[], _∷_}
-use Prim.Native.Nat.{_+_}
-use native.Mathlib.Omega.{arith}
 use denote.Ref.{now}
-use Rattle.header_laws.proofs.Accepted.{printed}
-use Rattle.tie_lookup.proofs.search.Defined.{definitions-counted}
 use Rattle.survey_datums.proofs.Placing.{found-times}
 use borrow.Author.Needs.{needs}
 use Rattle.survey_datums.proofs.joining.times_defined.Statement.{statement}

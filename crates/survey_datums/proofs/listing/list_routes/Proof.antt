@@ -1,5 +1,4 @@
 -- `survey_datums::listing::list_routes` meets its contract.
-use mathlib.Core.Path.{sym, _∙_}
 use denote.Ref.{now}
 use Rattle.survey_datums.proofs.Laying.{told-listed, refused-listed}
 use borrow.Author.Needs.{needs}

@@ -1,6 +1,5 @@
 -- `survey_datums::routing::further_by` meets its contract.
 use native.Mathlib.Omega.{arith}
-use mathlib.Core.Path.{sym}
 use Rattle.survey_datums.proofs.routing.Steps.{known-stays, now-known, not-yet}
 use borrow.Author.Needs.{needs}
 use Rattle.survey_datums.proofs.routing.further_by.Statement.{statement}

@@ -1,14 +1,7 @@
-use mathlib.Core.Path.{_≡_, refl, ap, sym, _∙_}
 use Rattle.volume_check.proofs.covering.Walks.{step-none, step-long, step-same, step-other}
-use native.Mathlib.Omega.{arith}
 use borrow.Author.Needs.{needs}
 use Rattle.volume_check.proofs.covering.count_of.Statement.{statement}
 use Rattle.volume_check.proofs.covering.count_of.Tie as tie
-use Rattle.volume_check.proofs.covering.count_of.Reads as reads
-use Rattle.volume_check.proofs.covering.count_of.Lts as lts
-use Rattle.volume_form.proofs.building.entry_card.Reads as entry-card-reads
-use Rattle.volume_form.proofs.reading.count_on.Reads as count-on-reads
-use Rattle.base_lists.proofs.same.Reads as same-reads
 
 -- src/lib.rt:77:9
 count-on-requires : tie.Need-count-on-requires

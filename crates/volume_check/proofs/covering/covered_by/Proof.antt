@@ -3,17 +3,14 @@ use native.Mathlib.Nat.{sub-zero}
 use Rattle.volume_check.proofs.covering.Walks.{step-lent}
 use Rattle.volume_rules.specs.Sound.{covers}
 use Rattle.volume_form.specs.Rows.{rowOf}
-use lib.ListN.{length, drop, take}
-use Prim.Native.Nat.{_≤_, _+_, _-_, _*_, _^_, _/_}
-use mathlib.Core.Path.{_≡_, refl, ap, sym, _∙_}
+use lib.ListN.{length, drop}
+use Prim.Native.Nat.{_≤_, _+_, _-_, _*_, _/_}
+use mathlib.Core.Path.{_≡_, sym, _∙_}
 use Rattle.volume_check.proofs.covering.Walks.{covers-stops, covers-goes, covers-within, covers-ends}
 use native.Mathlib.Omega.{arith}
 use borrow.Author.Needs.{needs}
 use Rattle.volume_check.proofs.covering.covered_by.Statement.{statement}
 use Rattle.volume_check.proofs.covering.covered_by.Tie as tie
-use Rattle.volume_check.proofs.covering.covered_by.Reads as reads
-use Rattle.volume_check.proofs.covering.covered_by.Lts as lts
-use Rattle.volume_check.proofs.covering.count_of.Reads as count-of-reads
 
 abbrev Inv-loop : tie.InvT-loop
 Inv-loop form body directory count at₀ i₀ at i = (80 * at ≤ length body) × (i ≤ count) × (covers (rowOf form) 1 body directory count ≡ covers (rowOf form) (at + 1) (drop (80 * at) body) (drop (80 * i) directory) (count - i))

@@ -1,18 +1,14 @@
 use denote.Ref.{now}
-use Prim.Native.Nat.{_+_, _-_, _*_, _/_, _≤_}
+use Prim.Native.Nat.{_-_, _*_, _/_, _≤_}
 use native.Mathlib.Nat.{sub-zero}
 use native.Mathlib.Omega.{arith}
-use mathlib.Core.Path.{_≡_, refl, sym, ap, _∙_}
-use lib.ListN.{length, take, drop}
+use mathlib.Core.Path.{_≡_, sym, ap, _∙_}
+use lib.ListN.{length, drop}
 use borrow.Author.Needs.{needs}
 use Rattle.volume_rules.specs.Sound.{mixed}
 use Rattle.volume_check.proofs.covering.Walks.{mixed-hit, mixed-on, mixed-none}
 use Rattle.volume_check.proofs.covering.is_mixed.Statement.{statement}
 use Rattle.volume_check.proofs.covering.is_mixed.Tie as tie
-use Rattle.volume_check.proofs.covering.is_mixed.Reads as reads
-use Rattle.volume_check.proofs.covering.is_mixed.Lts as lts
-use Rattle.volume_form.proofs.other_code.Reads as other-code-reads
-use Rattle.base_lists.proofs.same.Reads as same-reads
 
 abbrev Inv-loop : tie.InvT-loop
 Inv-loop directory other count i₀ i = (i ≤ length directory / 80) × (mixed other directory (length directory / 80) ≡ mixed other (drop (80 * i) directory) (length directory / 80 - i))

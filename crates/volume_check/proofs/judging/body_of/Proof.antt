@@ -1,13 +1,12 @@
 -- `volume_check::judging::body_of` meets its contract.
 use denote.Ref.{now}
-use mathlib.Core.Path.{_≡_, refl, sym, ap, _∙_}
+use mathlib.Core.Path.{sym, ap}
 use Prim.Native.Nat.{_*_, _-_}
 use lib.ListN.{take}
 use lib.Seq.{length-take-le}
 use Rattle.volume_check.proofs.judging.Parts.{least, before-last, body-ends}
 use Rattle.volume_rules.specs.Sound.{bodyOf}
 use native.Mathlib.Omega.{arith}
-use borrow.Author.Needs.{needs}
 use Rattle.volume_check.proofs.judging.body_of.Statement.{statement}
 use Rattle.volume_check.proofs.judging.body_of.Tie as tie
 

@@ -1,10 +1,9 @@
 -- `volume_check::judging::check_header` meets its contract.
-use mathlib.Core.Path.{_≡_, refl, sym, ap, _∙_}
+use mathlib.Core.Path.{ap, _∙_}
 use denote.Ref.{now}
 use Rattle.volume_form.specs.Rows.{rowOf}
 use Rattle.header_check.specs.declared.Checked.the-variants.{Refused}
 use Rattle.volume_check.proofs.judging.Headers.{header-large, header-plain}
-use native.Mathlib.Omega.{arith}
 use borrow.Author.Needs.{needs}
 use Rattle.volume_check.proofs.judging.check_header.Statement.{statement}
 use Rattle.volume_check.proofs.judging.check_header.Tie as tie

@@ -1,11 +1,10 @@
 -- `volume_check::judging::directory_of` meets its contract.
 use denote.Ref.{now}
-use mathlib.Core.Path.{_≡_, refl, sym, ap, _∙_}
+use mathlib.Core.Path.{ap, _∙_}
 use Prim.Native.Nat.{_*_, _-_}
 use lib.ListN.{take, drop}
 use Rattle.volume_check.proofs.judging.Parts.{least, before-last, body-ends, directory-part}
 use native.Mathlib.Omega.{arith}
-use borrow.Author.Needs.{needs}
 use Rattle.volume_check.proofs.judging.directory_of.Statement.{statement}
 use Rattle.volume_check.proofs.judging.directory_of.Tie as tie
 

@@ -1,11 +1,10 @@
 -- `volume_check::judging::first_of` meets its contract.
-use mathlib.Core.Path.{_≡_, refl, sym, ap, _∙_}
+use mathlib.Core.Path.{ap, _∙_}
 use Rattle.volume_form.specs.Rows.{rowOf}
 use lib.ListN.{length}
 use Rattle.volume_check.proofs.judging.Parts.{last-long}
 use Rattle.volume_form.specs.Marked.{firstOn}
 use Rattle.volume_rules.specs.Sound.{firstOf}
-use native.Mathlib.Omega.{arith}
 use borrow.Author.Needs.{needs}
 use Rattle.volume_check.proofs.judging.first_of.Statement.{statement}
 use Rattle.volume_check.proofs.judging.first_of.Tie as tie

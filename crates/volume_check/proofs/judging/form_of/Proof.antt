@@ -2,10 +2,6 @@ use Rattle.volume_check.proofs.judging.Parts.{form-none, form-short, fo
 use borrow.Author.Needs.{needs}
 use Rattle.volume_check.proofs.judging.form_of.Statement.{statement}
 use Rattle.volume_check.proofs.judging.form_of.Tie as tie
-use Rattle.volume_check.proofs.judging.form_of.Reads as reads
-use Rattle.volume_check.proofs.judging.form_of.Lts as lts
-use Rattle.base_lists.proofs.same.Reads as same-reads
-use Rattle.volume_form.proofs.trailer_code.Reads as trailer-code-reads
 
 -- src/judging.rt:172:9
 returns : tie.Need-returns

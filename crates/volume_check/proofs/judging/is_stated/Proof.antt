@@ -1,9 +1,8 @@
 -- `volume_check::judging::is_stated` meets its contract.
-use mathlib.Core.Path.{_≡_, refl, sym, ap, _∙_}
+use mathlib.Core.Path.{ap}
 use mathlib.Core.Bool.{_&&_}
 use lib.Dec.{leb}
 use Rattle.volume_rules.specs.Judged.{stated}
-use native.Mathlib.Omega.{arith}
 use borrow.Author.Needs.{needs}
 use Rattle.volume_check.proofs.judging.is_stated.Statement.{statement}
 use Rattle.volume_check.proofs.judging.is_stated.Tie as tie

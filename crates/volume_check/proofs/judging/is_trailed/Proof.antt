@@ -1,12 +1,11 @@
 -- `volume_check::judging::is_trailed` meets its contract.
-use mathlib.Core.Path.{_≡_, refl, sym, ap, _∙_}
+use mathlib.Core.Path.{ap, _∙_}
 use Rattle.volume_form.specs.Rows.{rowOf}
 use Rattle.volume_form.proofs.Cards.{good-row}
 use lib.ListN.{length}
 use Rattle.volume_check.proofs.judging.Parts.{last-long}
 use Rattle.volume_rules.specs.Sound.{points}
 use native.Mathlib.Omega.{arith}
-use borrow.Author.Needs.{needs}
 use Rattle.volume_check.proofs.judging.is_trailed.Statement.{statement}
 use Rattle.volume_check.proofs.judging.is_trailed.Tie as tie
 

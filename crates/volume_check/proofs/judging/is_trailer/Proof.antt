@@ -1,6 +1,5 @@
 -- `volume_check::judging::is_trailer` meets its contract.
 use Rattle.volume_check.proofs.judging.Headers.{points-none, points-over, points-as}
-use native.Mathlib.Omega.{arith}
 use borrow.Author.Needs.{needs}
 use Rattle.volume_check.proofs.judging.is_trailer.Statement.{statement}
 use Rattle.volume_check.proofs.judging.is_trailer.Tie as tie

@@ -1,5 +1,5 @@
 -- `volume_check::judging::judge` meets its contract.
-use mathlib.Core.Path.{_≡_, refl, sym, ap, _∙_}
+use mathlib.Core.Path.{sym, ap, _∙_}
 use denote.Ref.{now}
 use Rattle.volume_form.specs.Rows.{rowOf}
 use Rattle.header_check.specs.declared.Checked.the-variants.{Refused}

@@ -1,9 +1,8 @@
 -- `volume_check::judging::judge_cards` meets its contract.
-use mathlib.Core.Path.{_≡_, refl, sym, ap, _∙_}
+use mathlib.Core.Path.{sym, ap, _∙_}
 use Rattle.volume_form.proofs.Cards.{good-row}
 use Rattle.header_check.specs.declared.Checked.the-variants.{Refused}
 use Rattle.volume_check.proofs.judging.Parts.{body-fits, parts-said, no-trailer}
-use native.Mathlib.Omega.{arith}
 use borrow.Author.Needs.{needs}
 use Rattle.volume_check.proofs.judging.judge_cards.Statement.{statement}
 use Rattle.volume_check.proofs.judging.judge_cards.Tie as tie

@@ -1,5 +1,5 @@
 -- `volume_check::judging::judge_parts` meets its contract.
-use mathlib.Core.Path.{_≡_, refl, sym, ap, _∙_}
+use mathlib.Core.Path.{sym, ap, _∙_}
 use Rattle.header_check.specs.declared.Checked.the-variants.{Refused}
 use Rattle.volume_check.proofs.judging.Parts.{parts-mixed, parts-uncovered, parts-covered}
 use borrow.Author.Needs.{needs}

@@ -1,14 +1,7 @@
-use mathlib.Core.Path.{_≡_, refl, sym, ap, ap₂, _∙_}
 use Rattle.volume_edit.proofs.compact.Ways.{closed-written}
 use borrow.Author.Needs.{needs}
 use Rattle.volume_edit.proofs.compact.close.Statement.{statement}
 use Rattle.volume_edit.proofs.compact.close.Tie as tie
-use Rattle.volume_edit.proofs.compact.close.Reads as reads
-use Rattle.volume_edit.proofs.compact.close.Lts as lts
-use Rattle.volume_form.proofs.building.trailer_card.Reads as trailer-card-reads
-use Rattle.volume_form.proofs.moving.blank.Reads as blank-reads
-use Rattle.volume_form.proofs.moving.lay.Reads as lay-reads
-use Rattle.volume_form.proofs.moving.move_down.Reads as move-down-reads
 
 -- src/compact.rt:189:48
 add-trailer-card : tie.Need-add-trailer-card

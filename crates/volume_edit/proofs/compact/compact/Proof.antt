@@ -1,17 +1,13 @@
 use denote.Ref.{now}
 use Prim.Native.Nat.{_*_}
 use lib.ListN.{take}
-use mathlib.Core.Path.{_≡_, refl, sym, ap, ap₂, _∙_}
+use mathlib.Core.Path.{ap, _∙_}
 use Rattle.volume_form.specs.Rows.{rowOf}
 use Rattle.volume_rules.specs.Sound.{headersOf}
 use Rattle.volume_edit.specs.Written.{compactAnswer, compactedBy}
 use borrow.Author.Needs.{needs}
 use Rattle.volume_edit.proofs.compact.compact.Statement.{statement}
 use Rattle.volume_edit.proofs.compact.compact.Tie as tie
-use Rattle.volume_edit.proofs.compact.compact.Reads as reads
-use Rattle.volume_edit.proofs.compact.compact.Lts as lts
-use Rattle.volume_check.proofs.judging.form_of.Reads as form-of-reads
-use Rattle.volume_edit.proofs.compact.compact_in.Reads as compact-in-reads
 
 -- src/compact.rt:231:9
 form-of-requires : tie.Need-form-of-requires

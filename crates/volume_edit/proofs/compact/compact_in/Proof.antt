@@ -1,14 +1,10 @@
 use denote.Ref.{now}
-use mathlib.Core.Path.{_≡_, refl, sym, ap, ap₂, _∙_}
+use mathlib.Core.Path.{sym, _∙_}
 use Rattle.volume_form.specs.Rows.{rowOf}
 use Rattle.volume_edit.proofs.Answered.{compact-done, compact-refused}
 use borrow.Author.Needs.{needs}
 use Rattle.volume_edit.proofs.compact.compact_in.Statement.{statement}
 use Rattle.volume_edit.proofs.compact.compact_in.Tie as tie
-use Rattle.volume_edit.proofs.compact.compact_in.Reads as reads
-use Rattle.volume_edit.proofs.compact.compact_in.Lts as lts
-use Rattle.volume_check.proofs.judging.judge.Reads as judge-reads
-use Rattle.volume_edit.proofs.compact.write.Reads as write-reads
 
 -- src/compact.rt:217:9
 judge-requires : tie.Need-judge-requires

@@ -1,16 +1,13 @@
-use Prim.Native.Nat.{_+_, _-_, _*_, _/_, _≤_}
+use Prim.Native.Nat.{_-_, _*_, _/_, _≤_}
 use native.Mathlib.Nat.{sub-zero}
 use native.Mathlib.Omega.{arith}
-use mathlib.Core.Path.{_≡_, refl, sym, _∙_}
-use lib.ListN.{length, take, drop}
+use mathlib.Core.Path.{_≡_, sym, _∙_}
+use lib.ListN.{length, drop}
 use borrow.Author.Needs.{needs}
 use Rattle.volume_rules.specs.SameLine.{supersededOn}
 use Rattle.volume_edit.proofs.compact.Ways.{later-hit, later-on, later-none}
 use Rattle.volume_edit.proofs.compact.is_superseded.Statement.{statement}
 use Rattle.volume_edit.proofs.compact.is_superseded.Tie as tie
-use Rattle.volume_edit.proofs.compact.is_superseded.Reads as reads
-use Rattle.volume_edit.proofs.compact.is_superseded.Lts as lts
-use Rattle.volume_edit.proofs.compact.same_line.Reads as same-line-reads
 
 abbrev Inv-loop : tie.InvT-loop
 Inv-loop card later count i₀ i = (i ≤ length later / 80) × (supersededOn card later (length later / 80) ≡ supersededOn card (drop (80 * i) later) (length later / 80 - i))

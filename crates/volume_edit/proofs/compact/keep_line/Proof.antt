@@ -2,11 +2,6 @@ use Rattle.volume_edit.proofs.compact.Ways.{kept-written}
 use borrow.Author.Needs.{needs}
 use Rattle.volume_edit.proofs.compact.keep_line.Statement.{statement}
 use Rattle.volume_edit.proofs.compact.keep_line.Tie as tie
-use Rattle.volume_edit.proofs.compact.keep_line.Reads as reads
-use Rattle.volume_edit.proofs.compact.keep_line.Lts as lts
-use Rattle.volume_form.proofs.building.entry_card.Reads as entry-card-reads
-use Rattle.volume_form.proofs.moving.lay.Reads as lay-reads
-use Rattle.volume_form.proofs.moving.move_down.Reads as move-down-reads
 
 -- src/compact.rt:124:17
 mul-start : tie.Need-mul-start

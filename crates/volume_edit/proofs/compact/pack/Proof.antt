@@ -1,19 +1,11 @@
-use Prim.Native.Nat.{_+_, _-_, _*_, _/_, _≤_}
+use Prim.Native.Nat.{_-_, _≤_}
 use native.Mathlib.Omega.{arith}
-use mathlib.Core.Path.{_≡_, refl, sym, _∙_}
-use lib.ListN.{length, take, drop}
 use borrow.Author.Needs.{needs}
 use Rattle.volume_form.specs.Rows.{rowOf}
 use Rattle.volume_form.proofs.Cards.{good-row}
 use Rattle.volume_edit.proofs.compact.Walk.{Pack, pack-starts, pack-long, pack-room, pack-fits, pack-passes, pack-keeps, pack-goes, pack-ends, kept-few}
 use Rattle.volume_edit.proofs.compact.pack.Statement.{statement}
 use Rattle.volume_edit.proofs.compact.pack.Tie as tie
-use Rattle.volume_edit.proofs.compact.pack.Reads as reads
-use Rattle.volume_edit.proofs.compact.pack.Lts as lts
-use Rattle.base_lists.proofs.bit_of.Reads as bit-of-reads
-use Rattle.volume_edit.proofs.compact.is_superseded.Reads as is-superseded-reads
-use Rattle.volume_edit.proofs.compact.pack_line.Reads as pack-line-reads
-use Rattle.volume_form.proofs.reading.count_on.Reads as count-on-reads
 
 abbrev Inv-loop : tie.InvT-loop
 Inv-loop buffer₀ form body count end at₀ cards₀ lines₀ i₀ buffer at cards lines i = (i ≤ count) × Pack (rowOf form) buffer₀ body count buffer at i cards lines

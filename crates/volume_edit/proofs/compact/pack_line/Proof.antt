@@ -1,10 +1,6 @@
-use mathlib.Core.Path.{_∙_}
 use borrow.Author.Needs.{needs}
 use Rattle.volume_edit.proofs.compact.pack_line.Statement.{statement}
 use Rattle.volume_edit.proofs.compact.pack_line.Tie as tie
-use Rattle.volume_edit.proofs.compact.pack_line.Reads as reads
-use Rattle.volume_edit.proofs.compact.pack_line.Lts as lts
-use Rattle.volume_edit.proofs.compact.keep_line.Reads as keep-line-reads
 
 -- src/compact.rt:137:9
 returns : tie.Need-returns

@@ -3,11 +3,6 @@ use Rattle.volume_edit.proofs.compact.Ways.{line-other, line-numbers}
 use borrow.Author.Needs.{needs}
 use Rattle.volume_edit.proofs.compact.same_line.Statement.{statement}
 use Rattle.volume_edit.proofs.compact.same_line.Tie as tie
-use Rattle.volume_edit.proofs.compact.same_line.Reads as reads
-use Rattle.volume_edit.proofs.compact.same_line.Lts as lts
-use Rattle.value_text.proofs.text.stretch.Reads as stretch-reads
-use Rattle.volume_edit.proofs.compact.same_number.Reads as same-number-reads
-use Rattle.base_lists.proofs.same.Reads as same-reads
 
 -- src/compact.rt:79:30
 sub-stretch : tie.Need-sub-stretch

@@ -2,11 +2,6 @@ use Rattle.volume_edit.proofs.compact.Ways.{number-same}
 use borrow.Author.Needs.{needs}
 use Rattle.volume_edit.proofs.compact.same_number.Statement.{statement}
 use Rattle.volume_edit.proofs.compact.same_number.Tie as tie
-use Rattle.volume_edit.proofs.compact.same_number.Reads as reads
-use Rattle.volume_edit.proofs.compact.same_number.Lts as lts
-use Rattle.value_field.proofs.spelling.read.Reads as read-reads
-use Rattle.volume_edit.proofs.compact.size_of.Reads as size-of-reads
-use Rattle.volume_edit.proofs.compact.sort_of.Reads as sort-of-reads
 
 -- src/compact.rt:69:9
 read-requires : tie.Need-read-requires

@@ -6,9 +6,6 @@ use Rattle.volume_edit.proofs.compact.Ways.{sign-below, sign-from}
 use borrow.Author.Needs.{needs}
 use Rattle.volume_edit.proofs.compact.sign_of.Statement.{statement}
 use Rattle.volume_edit.proofs.compact.sign_of.Tie as tie
-use Rattle.volume_edit.proofs.compact.sign_of.Reads as reads
-use Rattle.volume_edit.proofs.compact.sign_of.Lts as lts
-use Rattle.base_digits.proofs.signs.below_zero.Reads as below-zero-reads
 
 -- src/compact.rt:32:8
 below-zero-requires : tie.Need-below-zero-requires

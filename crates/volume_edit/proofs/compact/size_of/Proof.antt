@@ -2,16 +2,12 @@ use lib.IntN.{natAbs}
 use mathlib.Core.Path.{sym, ap, _∙_}
 use mir.ValLaws.{toZ-ofZ}
 use mir.Syntax.{w64}
-use Rattle.base_value.specs.declared.Value.the-variants.{Whole}
 use Rattle.base_value.specs.declared.Reading.the-variants.{Held}
 use Rattle.volume_rules.specs.SameLine.{sizeOf}
 use Rattle.volume_edit.proofs.compact.Ways.{size-unheld, size-none}
 use borrow.Author.Needs.{needs}
 use Rattle.volume_edit.proofs.compact.size_of.Statement.{statement}
 use Rattle.volume_edit.proofs.compact.size_of.Tie as tie
-use Rattle.volume_edit.proofs.compact.size_of.Reads as reads
-use Rattle.volume_edit.proofs.compact.size_of.Lts as lts
-use Rattle.base_digits.proofs.signs.magnitude.Reads as magnitude-reads
 
 -- src/compact.rt:56:23
 enum-known-read : tie.Need-enum-known-read

@@ -8,9 +8,6 @@ use Rattle.volume_edit.proofs.compact.Ways.{sort-unheld, sort-odd}
 use borrow.Author.Needs.{needs}
 use Rattle.volume_edit.proofs.compact.sort_of.Statement.{statement}
 use Rattle.volume_edit.proofs.compact.sort_of.Tie as tie
-use Rattle.volume_edit.proofs.compact.sort_of.Reads as reads
-use Rattle.volume_edit.proofs.compact.sort_of.Lts as lts
-use Rattle.volume_edit.proofs.compact.sign_of.Reads as sign-of-reads
 
 -- src/compact.rt:42:23
 enum-known-read : tie.Need-enum-known-read

@@ -1,18 +1,13 @@
 use denote.Ref.{now}
-use mathlib.Core.Path.{_≡_, refl, sym, ap, ap₂, _∙_}
+use mathlib.Core.Path.{sym}
 use native.Mathlib.Omega.{arith}
 use Rattle.volume_form.specs.Rows.{rowOf}
 use Rattle.volume_form.proofs.Cards.{good-row}
 use Rattle.volume_check.proofs.Placing.{trailed, held}
-use Rattle.volume_edit.proofs.Accepted.{first-least, first-within, all-held, few-enough, listed, closes, kept-number, compacted-left}
+use Rattle.volume_edit.proofs.Accepted.{first-least, first-within, few-enough, listed, closes, kept-number, compacted-left}
 use borrow.Author.Needs.{needs}
 use Rattle.volume_edit.proofs.compact.write.Statement.{statement}
 use Rattle.volume_edit.proofs.compact.write.Tie as tie
-use Rattle.volume_edit.proofs.compact.write.Reads as reads
-use Rattle.volume_edit.proofs.compact.write.Lts as lts
-use Rattle.volume_check.proofs.judging.first_of.Reads as first-of-reads
-use Rattle.volume_edit.proofs.compact.close.Reads as close-reads
-use Rattle.volume_edit.proofs.compact.pack.Reads as pack-reads
 
 -- src/compact.rt:204:51
 mul-first-of : tie.Need-mul-first-of

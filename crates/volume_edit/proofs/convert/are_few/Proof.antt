@@ -1,17 +1,14 @@
-use Prim.Native.Nat.{_+_, _-_, _*_, _/_, _≤_}
+use Prim.Native.Nat.{_-_, _*_, _/_, _≤_}
 use native.Mathlib.Nat.{sub-zero}
 use native.Mathlib.Omega.{arith}
-use mathlib.Core.Path.{_≡_, refl, sym, ap, _∙_}
-use lib.ListN.{length, take, drop}
+use mathlib.Core.Path.{_≡_, sym, _∙_}
+use lib.ListN.{length, drop}
 use borrow.Author.Needs.{needs}
 use Rattle.volume_form.specs.Rows.{rowOf}
 use Rattle.volume_rules.specs.Converted.{fewOn}
 use Rattle.volume_edit.proofs.convert.Steps.{few-hit, few-on, few-none}
 use Rattle.volume_edit.proofs.convert.are_few.Statement.{statement}
 use Rattle.volume_edit.proofs.convert.are_few.Tie as tie
-use Rattle.volume_edit.proofs.convert.are_few.Reads as reads
-use Rattle.volume_edit.proofs.convert.are_few.Lts as lts
-use Rattle.volume_form.proofs.reading.count_on.Reads as count-on-reads
 
 abbrev Inv-loop : tie.InvT-loop
 Inv-loop form most directory count i₀ i = (i ≤ length directory / 80) × (fewOn (rowOf form) most directory (length directory / 80) ≡ fewOn (rowOf form) most (drop (80 * i) directory) (length directory / 80 - i))

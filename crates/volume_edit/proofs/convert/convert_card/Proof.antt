@@ -1,5 +1,5 @@
-use Prim.Native.Nat.{_+_, _*_, _<_, _^_}
-use mathlib.Core.Path.{sym, ap, _∙_}
+use Prim.Native.Nat.{_+_, _*_}
+use mathlib.Core.Path.{ap, _∙_}
 use Rattle.volume_form.specs.Moved.{laidAt}
 use Rattle.volume_form.specs.Rows.{rowOf}
 use Rattle.volume_form.specs.Marked.{entryCard}
@@ -7,11 +7,6 @@ use Rattle.volume_edit.proofs.convert.Steps.{card-read, rest-all, rest-
 use borrow.Author.Needs.{needs}
 use Rattle.volume_edit.proofs.convert.convert_card.Statement.{statement}
 use Rattle.volume_edit.proofs.convert.convert_card.Tie as tie
-use Rattle.volume_edit.proofs.convert.convert_card.Reads as reads
-use Rattle.volume_edit.proofs.convert.convert_card.Lts as lts
-use Rattle.volume_form.proofs.building.entry_card.Reads as entry-card-reads
-use Rattle.volume_form.proofs.moving.lay.Reads as lay-reads
-use Rattle.volume_form.proofs.reading.count_on.Reads as count-on-reads
 
 -- src/convert.rt:25:17
 mul-place : tie.Need-mul-place

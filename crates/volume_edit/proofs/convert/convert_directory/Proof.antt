@@ -1,16 +1,11 @@
-use Prim.Native.Nat.{_+_, _-_, _*_, _≤_}
+use Prim.Native.Nat.{_-_, _≤_}
 use native.Mathlib.Omega.{arith}
-use mathlib.Core.Path.{_≡_}
 use borrow.Author.Needs.{needs}
-use lib.ListN.{length, take, drop}
 use Rattle.volume_form.specs.Rows.{rowOf}
 use Rattle.volume_form.proofs.Cards.{good-row}
 use Rattle.volume_edit.proofs.convert.Steps.{Walk, walk-starts, walk-long, walk-room, walk-fits, walk-goes, walk-ends}
 use Rattle.volume_edit.proofs.convert.convert_directory.Statement.{statement}
 use Rattle.volume_edit.proofs.convert.convert_directory.Tie as tie
-use Rattle.volume_edit.proofs.convert.convert_directory.Reads as reads
-use Rattle.volume_edit.proofs.convert.convert_directory.Lts as lts
-use Rattle.volume_edit.proofs.convert.convert_card.Reads as convert-card-reads
 
 abbrev Inv-loop : tie.InvT-loop
 Inv-loop buffer₀ from to body count at₀ i₀ buffer at i = (i ≤ count) × Walk (rowOf from) (rowOf to) buffer₀ body count buffer at i

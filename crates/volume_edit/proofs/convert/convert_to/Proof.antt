@@ -1,14 +1,10 @@
 use denote.Ref.{now}
-use mathlib.Core.Path.{_≡_, refl, sym, ap, ap₂, _∙_}
+use mathlib.Core.Path.{sym, _∙_}
 use Rattle.volume_form.specs.Rows.{rowOf}
 use Rattle.volume_edit.proofs.Answered.{convert-done, convert-refused}
 use borrow.Author.Needs.{needs}
 use Rattle.volume_edit.proofs.convert.convert_to.Statement.{statement}
 use Rattle.volume_edit.proofs.convert.convert_to.Tie as tie
-use Rattle.volume_edit.proofs.convert.convert_to.Reads as reads
-use Rattle.volume_edit.proofs.convert.convert_to.Lts as lts
-use Rattle.volume_edit.proofs.convert.judge_convert.Reads as judge-convert-reads
-use Rattle.volume_edit.proofs.convert.write.Reads as write-reads
 
 -- src/convert.rt:133:9
 judge-convert-requires : tie.Need-judge-convert-requires

@@ -1,5 +1,5 @@
 use denote.Ref.{now}
-use mathlib.Core.Path.{_≡_, refl, sym, ap, ap₂, _∙_}
+use mathlib.Core.Path.{sym}
 use native.Mathlib.Omega.{arith}
 use Rattle.volume_form.specs.Rows.{rowOf}
 use Rattle.volume_form.proofs.Cards.{good-row}
@@ -8,12 +8,6 @@ use Rattle.volume_edit.proofs.Accepted.{holds-told}
 use borrow.Author.Needs.{needs}
 use Rattle.volume_edit.proofs.convert.is_held.Statement.{statement}
 use Rattle.volume_edit.proofs.convert.is_held.Tie as tie
-use Rattle.volume_edit.proofs.convert.is_held.Reads as reads
-use Rattle.volume_edit.proofs.convert.is_held.Lts as lts
-use Rattle.volume_check.proofs.judging.directory_of.Reads as directory-of-reads
-use Rattle.volume_edit.proofs.convert.are_few.Reads as are-few-reads
-use Rattle.volume_form.proofs.largest_of.Reads as largest-of-reads
-use Rattle.volume_form.proofs.most_of.Reads as most-of-reads
 
 -- src/convert.rt:83:9
 largest-of-requires : tie.Need-largest-of-requires

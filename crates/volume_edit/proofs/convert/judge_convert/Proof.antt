@@ -1,14 +1,10 @@
 use denote.Ref.{now}
-use mathlib.Core.Path.{_≡_, refl, sym, ap, ap₂, _∙_}
+use mathlib.Core.Path.{sym, _∙_}
 use Rattle.volume_form.specs.Rows.{rowOf}
 use Rattle.volume_edit.proofs.Accepted.{convert-good, convert-bad}
 use borrow.Author.Needs.{needs}
 use Rattle.volume_edit.proofs.convert.judge_convert.Statement.{statement}
 use Rattle.volume_edit.proofs.convert.judge_convert.Tie as tie
-use Rattle.volume_edit.proofs.convert.judge_convert.Reads as reads
-use Rattle.volume_edit.proofs.convert.judge_convert.Lts as lts
-use Rattle.volume_check.proofs.judging.judge.Reads as judge-reads
-use Rattle.volume_edit.proofs.convert.judge_form.Reads as judge-form-reads
 
 -- src/convert.rt:104:9
 judge-requires : tie.Need-judge-requires

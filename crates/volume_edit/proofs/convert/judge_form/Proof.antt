@@ -1,13 +1,9 @@
-use mathlib.Core.Path.{_≡_, refl, sym, ap, ap₂, _∙_}
+use mathlib.Core.Path.{sym, ap, _∙_}
 use Rattle.header_check.specs.declared.Checked.the-variants.{Accepted, Refused}
 use Rattle.volume_rules.specs.Judged.{unless}
 use borrow.Author.Needs.{needs}
 use Rattle.volume_edit.proofs.convert.judge_form.Statement.{statement}
 use Rattle.volume_edit.proofs.convert.judge_form.Tie as tie
-use Rattle.volume_edit.proofs.convert.judge_form.Reads as reads
-use Rattle.volume_edit.proofs.convert.judge_form.Lts as lts
-use Rattle.base_refusal.proofs.refuse.Reads as refuse-reads
-use Rattle.volume_edit.proofs.convert.is_held.Reads as is-held-reads
 
 -- src/convert.rt:94:8
 is-held-requires : tie.Need-is-held-requires

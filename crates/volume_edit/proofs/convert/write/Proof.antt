@@ -1,5 +1,5 @@
 use denote.Ref.{now}
-use mathlib.Core.Path.{_≡_, refl, sym, ap, ap₂, _∙_}
+use mathlib.Core.Path.{refl, sym}
 use native.Mathlib.Omega.{arith}
 use Rattle.volume_form.specs.Rows.{rowOf}
 use Rattle.volume_form.proofs.Cards.{good-row}
@@ -8,12 +8,6 @@ use Rattle.volume_edit.proofs.Accepted.{first-least, first-within, all-
 use borrow.Author.Needs.{needs}
 use Rattle.volume_edit.proofs.convert.write.Statement.{statement}
 use Rattle.volume_edit.proofs.convert.write.Tie as tie
-use Rattle.volume_edit.proofs.convert.write.Reads as reads
-use Rattle.volume_edit.proofs.convert.write.Lts as lts
-use Rattle.volume_check.proofs.judging.first_of.Reads as first-of-reads
-use Rattle.volume_edit.proofs.convert.convert_directory.Reads as convert-directory-reads
-use Rattle.volume_form.proofs.building.trailer_card.Reads as trailer-card-reads
-use Rattle.volume_form.proofs.moving.lay.Reads as lay-reads
 
 -- src/convert.rt:118:51
 mul-first-of : tie.Need-mul-first-of

@@ -1,12 +1,8 @@
 use Rattle.volume_form.proofs.building.Built.{laid-first}
-use mathlib.Core.Path.{refl, ap, sym, _∙_}
-use native.Mathlib.Omega.{arith}
+use mathlib.Core.Path.{_∙_}
 use borrow.Author.Needs.{needs}
 use Rattle.volume_form.proofs.building.coded.Statement.{statement}
 use Rattle.volume_form.proofs.building.coded.Tie as tie
-use Rattle.volume_form.proofs.building.coded.Reads as reads
-use Rattle.volume_form.proofs.building.coded.Lts as lts
-use Rattle.volume_form.proofs.moving.lay.Reads as lay-reads
 
 -- src/lib.rt:60:17
 slice-aggregate-lay : tie.Need-slice-aggregate-lay

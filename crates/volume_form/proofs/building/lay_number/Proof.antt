@@ -3,11 +3,6 @@ use native.Mathlib.Omega.{arith}
 use borrow.Author.Needs.{needs}
 use Rattle.volume_form.proofs.building.lay_number.Statement.{statement}
 use Rattle.volume_form.proofs.building.lay_number.Tie as tie
-use Rattle.volume_form.proofs.building.lay_number.Reads as reads
-use Rattle.volume_form.proofs.building.lay_number.Lts as lts
-use Rattle.base_digits.proofs.filling.fill_digits.Reads as fill-digits-reads
-use Rattle.base_digits.proofs.filling.size_of.Reads as size-of-reads
-use Rattle.volume_form.proofs.moving.blank.Reads as blank-reads
 
 -- src/lib.rt:48:9
 size-of-requires : tie.Need-size-of-requires

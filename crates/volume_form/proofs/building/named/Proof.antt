@@ -1,14 +1,10 @@
 use denote.Ref.{now}
 use Rattle.volume_form.specs.Marked.{nameOf, sequenceOf}
 use Rattle.volume_form.specs.Moved.{laidAt}
-use mathlib.Core.Path.{refl, ap, sym, _∙_}
-use native.Mathlib.Omega.{arith}
+use mathlib.Core.Path.{ap, _∙_}
 use borrow.Author.Needs.{needs}
 use Rattle.volume_form.proofs.building.named.Statement.{statement}
 use Rattle.volume_form.proofs.building.named.Tie as tie
-use Rattle.volume_form.proofs.building.named.Reads as reads
-use Rattle.volume_form.proofs.building.named.Lts as lts
-use Rattle.volume_form.proofs.moving.lay.Reads as lay-reads
 
 -- src/lib.rt:70:17
 slice-aggregate-lay : tie.Need-slice-aggregate-lay

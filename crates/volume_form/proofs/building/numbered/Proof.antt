@@ -1,14 +1,10 @@
 use Prim.Native.Nat.{_+_}
 use Rattle.volume_form.specs.Spelled.{spelled}
 use Rattle.volume_form.specs.Moved.{laidAt}
-use mathlib.Core.Path.{refl, ap, sym, _∙_}
-use native.Mathlib.Omega.{arith}
+use mathlib.Core.Path.{ap, _∙_}
 use borrow.Author.Needs.{needs}
 use Rattle.volume_form.proofs.building.numbered.Statement.{statement}
 use Rattle.volume_form.proofs.building.numbered.Tie as tie
-use Rattle.volume_form.proofs.building.numbered.Reads as reads
-use Rattle.volume_form.proofs.building.numbered.Lts as lts
-use Rattle.volume_form.proofs.building.lay_number.Reads as lay-number-reads
 
 -- src/lib.rt:81:16
 slice-aggregate-lay-number : tie.Need-slice-aggregate-lay-number

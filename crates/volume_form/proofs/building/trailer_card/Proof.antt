@@ -1,19 +1,12 @@
 use Rattle.volume_form.proofs.building.Built.{size-columns, trailer-built}
-use Rattle.volume_form.proofs.Cards.{Good}
 use Rattle.volume_form.specs.Rows.{rowOf}
 use Rattle.volume_form.specs.Marked.{padded}
 use Rattle.volume_form.proofs.Cards.{good-row}
-use mathlib.Core.Path.{refl, ap, sym, _∙_}
+use mathlib.Core.Path.{ap, _∙_}
 use native.Mathlib.Omega.{arith}
 use borrow.Author.Needs.{needs}
 use Rattle.volume_form.proofs.building.trailer_card.Statement.{statement}
 use Rattle.volume_form.proofs.building.trailer_card.Tie as tie
-use Rattle.volume_form.proofs.building.trailer_card.Reads as reads
-use Rattle.volume_form.proofs.building.trailer_card.Lts as lts
-use Rattle.volume_form.proofs.building.coded.Reads as coded-reads
-use Rattle.volume_form.proofs.building.numbered.Reads as numbered-reads
-use Rattle.volume_form.proofs.trailer_code.Reads as trailer-code-reads
-use Rattle.volume_form.proofs.width_of.Reads as width-of-reads
 
 -- src/lib.rt:101:9
 width-of-requires : tie.Need-width-of-requires

@@ -1,15 +1,8 @@
 use Rattle.volume_form.proofs.moving.Moves.{put-filled}
-use Prim.Native.Nat.{_≤_, _+_, _-_}
-use mathlib.Core.Path.{_≡_, refl, sym, _∙_}
-use lib.ListN.{length, drop, length-set}
-use Rattle.volume_form.specs.Moved.{moved, laidAt}
 use native.Mathlib.Omega.{arith}
 use borrow.Author.Needs.{needs}
 use Rattle.volume_form.proofs.moving.blank.Statement.{statement}
 use Rattle.volume_form.proofs.moving.blank.Tie as tie
-use Rattle.volume_form.proofs.moving.blank.Reads as reads
-use Rattle.volume_form.proofs.moving.blank.Lts as lts
-use Rattle.base_digits.proofs.filling.fill_blanks.Reads as fill-blanks-reads
 
 -- src/lib.rt:49:26
 sub-fill-blanks : tie.Need-sub-fill-blanks

@@ -2,9 +2,6 @@ use Rattle.volume_form.proofs.moving.Moves.{put-copied}
 use borrow.Author.Needs.{needs}
 use Rattle.volume_form.proofs.moving.lay.Statement.{statement}
 use Rattle.volume_form.proofs.moving.lay.Tie as tie
-use Rattle.volume_form.proofs.moving.lay.Reads as reads
-use Rattle.volume_form.proofs.moving.lay.Lts as lts
-use Rattle.value_text.proofs.text_entry.copy.Reads as copy-reads
 
 -- src/moving.rt:38:22
 sub-copy : tie.Need-sub-copy

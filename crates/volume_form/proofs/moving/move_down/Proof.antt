@@ -2,14 +2,12 @@ use native.Mathlib.Nat.{add-zero, sub-zero}
 use Rattle.volume_form.proofs.moving.Moves.{down-goes, moved-none}
 use Prim.Native.Nat.{_≤_, _+_, _-_}
 use mathlib.Core.Path.{_≡_, refl, sym, _∙_}
-use lib.ListN.{length, drop, length-set}
-use Rattle.volume_form.specs.Moved.{moved, laidAt}
+use lib.ListN.{length, length-set}
+use Rattle.volume_form.specs.Moved.{moved}
 use native.Mathlib.Omega.{arith}
 use borrow.Author.Needs.{needs}
 use Rattle.volume_form.proofs.moving.move_down.Statement.{statement}
 use Rattle.volume_form.proofs.moving.move_down.Tie as tie
-use Rattle.volume_form.proofs.moving.move_down.Reads as reads
-use Rattle.volume_form.proofs.moving.move_down.Lts as lts
 
 abbrev Inv-loop : tie.InvT-loop
 Inv-loop s₀ from to k i₀ s i = (i ≤ k) × (length s ≡ length s₀) × (moved s₀ from to k ≡ moved s (from + i) (to + i) (k - i))

@@ -1,14 +1,12 @@
 use Rattle.volume_form.proofs.moving.Moves.{up-goes, moved-none}
-use Prim.Native.Nat.{_≤_, _+_, _-_}
+use Prim.Native.Nat.{_≤_}
 use mathlib.Core.Path.{_≡_, refl, sym, _∙_}
-use lib.ListN.{length, drop, length-set}
-use Rattle.volume_form.specs.Moved.{moved, laidAt}
+use lib.ListN.{length, length-set}
+use Rattle.volume_form.specs.Moved.{moved}
 use native.Mathlib.Omega.{arith}
 use borrow.Author.Needs.{needs}
 use Rattle.volume_form.proofs.moving.move_up.Statement.{statement}
 use Rattle.volume_form.proofs.moving.move_up.Tie as tie
-use Rattle.volume_form.proofs.moving.move_up.Reads as reads
-use Rattle.volume_form.proofs.moving.move_up.Lts as lts
 
 abbrev Inv-loop : tie.InvT-loop
 Inv-loop s₀ from to k i₀ s i = (i ≤ k) × (length s ≡ length s₀) × (moved s₀ from to k ≡ moved s from to i)

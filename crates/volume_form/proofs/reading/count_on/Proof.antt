@@ -3,10 +3,6 @@ use Rattle.volume_form.specs.Rows.{rowOf}
 use borrow.Author.Needs.{needs}
 use Rattle.volume_form.proofs.reading.count_on.Statement.{statement}
 use Rattle.volume_form.proofs.reading.count_on.Tie as tie
-use Rattle.volume_form.proofs.reading.count_on.Reads as reads
-use Rattle.volume_form.proofs.reading.count_on.Lts as lts
-use Rattle.volume_form.proofs.reading.number_on.Reads as number-on-reads
-use Rattle.volume_form.proofs.width_of.Reads as width-of-reads
 
 -- src/reading.rt:52:26
 width-of-requires : tie.Need-width-of-requires

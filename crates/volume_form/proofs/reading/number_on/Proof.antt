@@ -1,12 +1,7 @@
 use Rattle.volume_form.proofs.reading.Walks.{number-part}
-use Rattle.volume_form.specs.Rows.{rowOf}
 use borrow.Author.Needs.{needs}
 use Rattle.volume_form.proofs.reading.number_on.Statement.{statement}
 use Rattle.volume_form.proofs.reading.number_on.Tie as tie
-use Rattle.volume_form.proofs.reading.number_on.Reads as reads
-use Rattle.volume_form.proofs.reading.number_on.Lts as lts
-use Rattle.volume_form.proofs.reading.standing_in.Reads as standing-in-reads
-use Rattle.volume_form.proofs.width_of.Reads as width-of-reads
 
 -- src/reading.rt:43:21
 width-of-requires : tie.Need-width-of-requires

@@ -3,15 +3,12 @@ use Rattle.volume_form.proofs.reading.Walks.{value-goes, value-ends, va
 use Rattle.volume_form.specs.Spelled.{standing}
 use Rattle.base_digits.specs.digits.Figures.{valueFrom}
 use lib.ListN.{length, drop}
-use Prim.Native.Nat.{_≤_, _+_, _-_, _*_, _^_, _/_}
+use Prim.Native.Nat.{_≤_, _+_, _-_, _*_, _^_}
 use mathlib.Core.Path.{_≡_, refl, ap, sym, _∙_}
 use native.Mathlib.Omega.{arith}
 use borrow.Author.Needs.{needs}
 use Rattle.volume_form.proofs.reading.standing_in.Statement.{statement}
 use Rattle.volume_form.proofs.reading.standing_in.Tie as tie
-use Rattle.volume_form.proofs.reading.standing_in.Reads as reads
-use Rattle.volume_form.proofs.reading.standing_in.Lts as lts
-use Rattle.volume_form.proofs.reading.value_of.Reads as value-of-reads
 
 abbrev Inv-loop : tie.InvT-loop
 Inv-loop columns n₀ i₀ n i = (i ≤ length columns) × (n + 23 ≤ 23 * 10 ^ i) × (valueFrom 0 columns ≡ valueFrom n (drop i columns))
