@@ -5,7 +5,7 @@ use native.Mathlib.Nat.{add-zero}
 use native.Mathlib.Numerals.{add-one}
 use mathlib.Core.Path.{_≡_, refl, sym, ap, _∙_, subst}
 use mathlib.Core.List.{List, [], _∷_}
-use mathlib.Core.Bool.{Bool, true, false}
+use mathlib.Core.Bool.{Bool, true, false, true≢false}
 use lib.Dec.{T}
 use lib.ListN.{length, getD}
 use Rattle.base_lists.specs.Count.{firstFrom}
@@ -14,6 +14,7 @@ use Rattle.format_layout.specs.declared.Form.{Form}
 use Rattle.format_layout.specs.Layouts.{fieldsOf, labelOf}
 use Rattle.format_layout.proofs.Columns.{inOrder, Lies, front, rest}
 use Rattle.card_screen.specs.Roles.{sure}
+use Rattle.card_screen.proofs.Lines.{past-plain}
 use Rattle.card_screen.proofs.Cards.{Gap, Clean, unlabelled, clean}
 use Rattle.card_check.specs.declared.Verdict.{Verdict}
 use Rattle.card_check.specs.declared.Verdict.the-variants.{Fine, Offence}
@@ -51,3 +52,8 @@ module _ (k : ℕ) (form : Form) (s : List ℕ) where
       let none : length (labelOf k) ≡ 0 = unlabelled k s whole h in
       label-right k form s (label-here k s whole (omega (arith, none)) (λ j l. absurd (omega (arith, none)))) (omega (arith, none)) 6 (omega (arith, none))
       ∙ fields-fine (fieldsOf k) 6 (omega arith) (subst (λ (n : ℕ). T (inOrder (6 + n) (fieldsOf k))) none (in-order k)) (clean k s whole h)
+
+-- and has a layout: none has the number for none
+pub sure-read : (k : ℕ) (s : List ℕ) → sure k s ≡ true → k ≡ 99 → ⊥
+unfolding sure
+sure-read k s h e = true≢false (sym (rw (past-plain k (omega (arith, e))) at h))

@@ -18,15 +18,14 @@ use format_layout::label;
 use value_text::printable;
 ghost use mathlib.Core.Path.{_≡_};
 ghost use Prim.Native.Nat.{_≤_, _-_, _+_};
-ghost use lib.ListN.{length, take};
+ghost use lib.ListN.{length};
 ghost use lib.Dec.{T, ltb};
 ghost use Rattle.base_lists.specs.Count.{firstFrom};
 ghost use Rattle.format_layout.specs.Layouts.{labelOf, fieldsOf};
 ghost use Rattle.format_layout.specs.packed.Rows.{unpack};
 ghost use Rattle.format_layout.specs.Columns.{width, wideAs};
 ghost use Rattle.format_layout.specs.Forms.{isOpen};
-ghost use Rattle.format_code.specs.Codes.{codeOf};
-ghost use Rattle.card_check.specs.Judging.{isCoordinate, fieldOffence, filledAt, gapOffence, columnOffence, nextVerdict, labelStands, offenceAt, verdictFrom, verdictOf};
+ghost use Rattle.card_check.specs.Judging.{isCoordinate, fieldOffence, filledAt, gapOffence, columnOffence, nextVerdict, labelStands, offenceAt, verdictFrom, codeVerdict, verdictOf};
 
 // What a card is by itself: fine, or the number of its first offence and its column.
 pub enum Verdict {
@@ -171,14 +170,11 @@ fn judge_columns(card: &[u8], layout: usize, form: Form, from: usize) -> Verdict
     }
 }
 
-// A card of a read code: fine if the screen is sure of it; otherwise its label, and then its columns.
+// A card of a read code: its label, and then its columns.
 fn judge_read(card: &[u8], layout: usize, form: Form) -> Verdict
     requires { ⌜ length (now card) ≡ 80 ⌝ }
     ensures { λ r. ⌜ r ≡ verdictFrom (offenceAt layout form (now (card .entry))) 6 ⌝ }
 {
-    if card_screen::is_fine(card, layout) {
-        return Verdict::Fine;
-    }
     if !label_stands(card, layout) {
         return Verdict::Offence(MISLABELLED, 6);
     }
@@ -186,15 +182,11 @@ fn judge_read(card: &[u8], layout: usize, form: Form) -> Verdict
     judge_columns(card, layout, form, from)
 }
 
-// A card of 80 columns by its code: the caller has found the code.
+// A card of 80 printable columns by its code: the caller has found the code.
 pub fn judge_by(card: &[u8], code: Code, form: Form) -> Verdict
-    requires { ⌜ (length (now card) ≡ 80) × (code ≡ codeOf (take 5 (now card))) ⌝ }
-    ensures { λ r. ⌜ r ≡ verdictOf (now (card .entry)) form ⌝ }
+    requires { ⌜ length (now card) ≡ 80 ⌝ }
+    ensures { λ r. ⌜ r ≡ codeVerdict code form (now (card .entry)) ⌝ }
 {
-    let bad = printable::first_bad(card);
-    if bad < CARD {
-        return Verdict::Offence(UNPRINTABLE, bad + 1);
-    }
     match code {
         Code::Unknown => Verdict::Offence(UNKNOWN, 1),
         Code::Passed => Verdict::Fine,
@@ -211,6 +203,10 @@ pub fn judge_card(card: &[u8], form: Form) -> Verdict
     }
     if card.len() != CARD {
         return Verdict::Offence(ODD_LENGTH, 0);
+    }
+    let bad = printable::first_bad(card);
+    if bad < CARD {
+        return Verdict::Offence(UNPRINTABLE, bad + 1);
     }
     let code = format_code::code_of(&card[..CODE]);
     judge_by(card, code, form)

@@ -1,5 +1,6 @@
 pub mod Lines
 pub mod Rows
+pub mod Filling
 pub mod Runs
 pub mod Steps
 pub mod Sixteen

@@ -9,11 +9,8 @@ use Rattle.format_layout.specs.Layouts.{fieldsOf, labelOf}
 use Rattle.format_layout.specs.packed.Rows.{layoutCount}
 use Rattle.format_layout.proofs.Lines.{Others, above}
 use Rattle.format_layout.proofs.Places.{no-fields}
-use Rattle.card_screen.specs.Machine.{classOf, rowAt}
+use Rattle.card_screen.specs.Machine.{rowAt}
 use Rattle.card_screen.specs.Roles.{plain, wordAt}
-
-pub same-class : (n q : ℕ) → q ≡ n → 16 * classOf n ≡ 16 * classOf q
-same-class n q e = rw e
 
 pub same-line : (n q : ℕ) → q ≡ n → rowAt n ≡ rowAt q
 same-line n q e = rw e

@@ -1,10 +1,11 @@
 -- A machine that looks at each column of a card once. What one more byte makes of its state goes by the byte's class and the role of
 -- its column. No promise to a caller cites this: the machine may only spare judging a card.
-use Prim.Native.Nat.{ℕ, zero, suc, _+_, _-_, _*_, _/_, _%_, _^_}
+use Prim.Native.Nat.{ℕ, zero, suc, _+_, _-_, _*_, _/_, _%_, _^_, _<_}
+use mathlib.Core.Path.{_≡_}
 use mathlib.Core.List.{List, [], _∷_}
 use mathlib.Core.Bool.{Bool, true, false, cond, _||_, _&&_}
 use lib.Dec.{eqb, leb}
-use lib.ListN.{getD}
+use lib.ListN.{length, getD}
 use Rattle.base_digits.specs.digits.Figures.{isDigit}
 
 -- the class of a byte: 0 a blank, 1 a sign, 2 a point, 3 to 12 the digits, 13 any other
@@ -107,6 +108,12 @@ rowAt i =
     + 256 * (stepBy (i % 16) (i / 16) 24
     + 256 * (stepBy (i % 16) (i / 16) 32
     + 256 * (stepBy (i % 16) (i / 16) 40 + 256 * (stepBy (i % 16) (i / 16) 48 + 256 * stepBy (i % 16) (i / 16) 56))))))
+
+-- the table that the code walks by: for each byte the place of its class's rows, and behind these the rows
+pub record Built (table : List ℕ) : Type 0 where
+  pub size : length table ≡ 512
+  pub bytes-are : (b : ℕ) → b < 256 → getD table b 0 ≡ 256 + 16 * classOf b
+  pub rows-are : (i : ℕ) → i < 256 → getD table (256 + i) 0 ≡ rowAt i
 
 -- columns with a role each, from a state on
 unfoldable pub runs : List ℕ → List ℕ → ℕ → ℕ

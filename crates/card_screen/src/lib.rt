@@ -3,10 +3,11 @@
 pub mod roles;
 pub mod tables;
 
+use crate::tables::TABLE;
 ghost use Prim.Native.Nat.{_<_, _≤_, _%_};
 ghost use mathlib.Core.Path.{_≡_};
 ghost use lib.ListN.{length};
-ghost use Rattle.card_screen.specs.Machine.{step, runTo, ends};
+ghost use Rattle.card_screen.specs.Machine.{step, runTo, ends, Built};
 ghost use Rattle.card_screen.specs.Roles.{sure};
 
 // How many layouts there are.
@@ -27,15 +28,18 @@ const PLACES: u64 = 40;
 const UNSURE: u64 = 56;
 
 // One more byte.
-fn next(state: u64, role: u8, b: u8) -> u64
+fn next(table: &[u64; TABLE], state: u64, role: u64, b: u8) -> u64
+    requires { ⌜ Built (now table) ⌝ }
     requires { ⌜ (state < 64) × (state % 8 ≡ 0) × (role < 16) ⌝ }
     ensures { λ r. ⌜ (r ≡ step role b state) × (r < 64) × (r % 8 ≡ 0) ⌝ }
 {
-    (tables::row_at(tables::class_of(b) + role) >> state) % 64
+    let rows = table[b as usize];
+    (table[(rows + role) as usize] >> state) % 64
 }
 
 // One row of columns, their roles a hexadecimal digit each of one number.
-fn run_row(card: &[u8], from: usize, roles: u64, state: u64) -> u64
+fn run_row(table: &[u64; TABLE], card: &[u8], from: usize, roles: u64, state: u64) -> u64
+    requires { ⌜ Built (now table) ⌝ }
     requires { ⌜ (length (now card) ≡ 80) × (from ≤ 64) × (state < 64) × (state % 8 ≡ 0) ⌝ }
     ensures { λ r. ⌜ (r ≡ runTo (now (card .entry)) from roles state 16) × (r < 64) × (r % 8 ≡ 0) ⌝ }
 {
@@ -43,7 +47,7 @@ fn run_row(card: &[u8], from: usize, roles: u64, state: u64) -> u64
     let mut s = state;
     let mut i = 0;
     while i < COLUMNS {
-        s = next(s, (rest % 16) as u8, card[from + i]);
+        s = next(table, s, rest % 16, card[from + i]);
         rest = rest / 16;
         i += 1;
     }
@@ -59,7 +63,8 @@ fn may_end(state: u64) -> bool
 
 // Whether the machine is sure that a card of a layout has no offence and no misplaced number. Which layouts it is never sure of is
 // known before the first column.
-pub fn is_fine(card: &[u8], layout: usize) -> bool
+pub fn is_fine(table: &[u64; TABLE], card: &[u8], layout: usize) -> bool
+    requires { ⌜ Built (now table) ⌝ }
     requires { ⌜ length (now card) ≡ 80 ⌝ }
     ensures { λ r. ⌜ r ≡ sure layout (now (card .entry)) ⌝ }
 {
@@ -73,6 +78,7 @@ pub fn is_fine(card: &[u8], layout: usize) -> bool
     let mut row = 0;
     while row < ROWS {
         state = run_row(
+            table,
             card,
             row * COLUMNS,
             roles::roles_at(layout * ROWS + row),

@@ -4,6 +4,7 @@ pub mod malformed;
 
 use base_refusal::Refusal;
 use crew_io::page;
+use format_layout::CARDS;
 use format_layout::Form;
 use format_layout::label;
 use format_layout::names::H00X8;
@@ -172,7 +173,8 @@ fn push_mislabelled(out: &mut [u8], n: usize, card: &[u8]) -> usize {
 
 // The form of a card's coordinates.
 fn form_of(header: &[u8], card: &[u8], layout: usize) -> Form {
-    let notes = forms::notes_of(header);
+    let mut cards = [0u8; CARDS];
+    let notes = forms::notes_of(header, &mut cards);
     forms::form_by(&notes, layout, card)
 }
 

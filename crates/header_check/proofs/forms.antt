@@ -1,4 +1,5 @@
 -- Laws of the notes.
 pub mod Steps
+pub mod Layouts
 pub mod Noting
 pub mod Named

@@ -1,6 +1,10 @@
-// The form of a card's coordinates, where another card may state it: noted in one pass over all cards.
+// What one pass over all cards notes: of each card its layout and whether the screen is sure of it, and the forms of coordinates
+// that some cards state for others.
+use card_screen::tables;
+use card_screen::tables::TABLE;
 use format_code::Code;
 use format_layout::CARD;
+use format_layout::CARDS;
 use format_layout::CODE;
 use format_layout::Form;
 use format_layout::names::H00X8;
@@ -10,8 +14,13 @@ use format_layout::names::H0101;
 use format_layout::names::H5000;
 ghost use mathlib.Core.Path.{_≡_};
 ghost use Prim.Native.Nat.{_+_, _<_};
+ghost use lib.ListN.{length, set, take};
+ghost use Rattle.format_code.specs.Codes.{codeOf};
+ghost use Rattle.card_screen.specs.Machine.{Built};
 ghost use Rattle.header_check.specs.forms.Cards.{numberOf, cardsIn, layoutOf};
 ghost use Rattle.header_check.specs.packed.Notes.{noteCount, mark, noted, told, noteAt, noteCard, notesTo, formBy};
+ghost use Rattle.header_check.specs.Refusing.{largest};
+ghost use Rattle.header_check.specs.packed.Noted.{cardNote, layoutIn, isSure, notedTo};
 
 // The number that stands for a code that no layout reads.
 pub const UNREAD: usize = 99;
@@ -20,7 +29,10 @@ pub const UNREAD: usize = 99;
 // matter.
 pub const NOTES: usize = 257;
 
-// What a note says: no card seen, form 0, form 1, or it cannot be known.
+// Added to a layout's number where the screen is sure of a card.
+const SURE: u8 = 128;
+
+// What a form's note says: no card seen, form 0, form 1, or it cannot be known.
 const NONE: u8 = 0;
 
 const ANGLES: u8 = 1;
@@ -48,6 +60,53 @@ pub fn layout_of(card: &[u8]) -> usize
         return UNREAD;
     }
     number_of(format_code::code_of(&card[..CODE]))
+}
+
+// The code of a card whose layout is known: only one that no layout reads is looked up.
+pub fn code_by(card: &[u8], layout: usize) -> Code
+    requires { ⌜ (length (now card) ≡ 80) × (layout ≡ layoutOf (now card)) ⌝ }
+    ensures { λ r. ⌜ r ≡ codeOf (take 5 (now (card .entry))) ⌝ }
+{
+    if layout != UNREAD {
+        return Code::Read(layout);
+    }
+    format_code::code_of(&card[..CODE])
+}
+
+// What is noted of a card: the number of its layout, with SURE added where the screen is sure of it.
+fn card_note(table: &[u64; TABLE], card: &[u8], layout: usize) -> u8
+    requires { ⌜ Built (now table) ⌝ }
+    requires { ⌜ (length (now card) ≡ 80) × (layout ≡ layoutOf (now card)) ⌝ }
+    ensures { λ r. ⌜ r ≡ cardNote (now (card .entry)) ⌝ }
+{
+    if card_screen::is_fine(table, card, layout) {
+        return SURE + layout as u8;
+    }
+    layout as u8
+}
+
+// The layout that a card's note tells.
+pub fn layout_in(note: u8) -> usize
+    ensures { λ r. ⌜ r ≡ layoutIn note ⌝ }
+{
+    (note % SURE) as usize
+}
+
+// Whether it tells that the screen is sure of the card.
+pub fn is_sure(note: u8) -> bool
+    ensures { λ r. ⌜ r ≡ isSure note ⌝ }
+{
+    SURE <= note
+}
+
+// Puts a card's note in its place, if there is room.
+fn put_note(cards: &mut [u8; CARDS], place: usize, note: u8)
+    requires { ⌜ length (now cards) ≡ largest ⌝ }
+    ensures { λ _. ⌜ now (cards .exit) ≡ set (now (cards .entry)) place note ⌝ }
+{
+    if place < CARDS {
+        cards[place] = note;
+    }
 }
 
 // The note of a form column's byte.
@@ -100,14 +159,11 @@ fn note(notes: &mut [u8; NOTES], place: usize, byte: u8)
     notes[place] = note_again(notes[place], byte);
 }
 
-// Notes the form that a card states, if it states one: H00@8 and H0100 have a 0 in column 2.
-fn note_card(notes: &mut [u8; NOTES], card: &[u8])
+// Notes the form that a card states, if it states one.
+fn note_card(notes: &mut [u8; NOTES], card: &[u8], layout: usize)
+    requires { ⌜ layout ≡ layoutOf (now card) ⌝ }
     ensures { λ _. ⌜ now (notes .exit) ≡ noteCard (now (notes .entry)) (now (card .entry)) ⌝ }
 {
-    if base_lists::byte_at(card, 1) != b'0' {
-        return;
-    }
-    let layout = layout_of(card);
     if layout == H00X8 {
         note(
             notes,
@@ -121,17 +177,23 @@ fn note_card(notes: &mut [u8; NOTES], card: &[u8])
     }
 }
 
-// The notes of all cards of a header.
-pub fn notes_of(header: &[u8]) -> [u8; NOTES]
-    ensures { λ r. ⌜ r ≡ notesTo (now (header .entry)) (cardsIn (now (header .entry))) ⌝ }
+// The notes of the forms that the cards of a header state; what is noted of each card is put in the lent array, as far as it has room.
+pub fn notes_of(header: &[u8], cards: &mut [u8; CARDS]) -> [u8; NOTES]
+    requires { ⌜ length (now cards) ≡ largest ⌝ }
+    ensures forms { λ r. ⌜ r ≡ notesTo (now (header .entry)) (cardsIn (now (header .entry))) ⌝ }
+    ensures cards { λ _. ⌜ now (cards .exit) ≡ notedTo (now (header .entry)) (now (cards .entry)) (cardsIn (now (header .entry))) ⌝ }
 {
+    let table = tables::table();
     let mut notes = [NONE; NOTES];
     let count = header.len() / CARD;
-    let mut card = 0;
-    while card < count {
-        let from = card * CARD;
-        note_card(&mut notes, &header[from..from + CARD]);
-        card += 1;
+    let mut place = 0;
+    while place < count {
+        let from = place * CARD;
+        let card = &header[from..from + CARD];
+        let layout = layout_of(card);
+        put_note(cards, place, card_note(&table, card, layout));
+        note_card(&mut notes, card, layout);
+        place += 1;
     }
     notes
 }

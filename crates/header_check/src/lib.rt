@@ -14,19 +14,20 @@ use card_check::Verdict;
 use format_code::Code;
 use format_layout::CARD;
 use format_layout::CARDS;
-use format_layout::CODE;
 use format_layout::Form;
 use format_layout::names::H00X8;
 use format_layout::names::H00X9;
 use value_text::printable;
 ghost use mathlib.Core.Path.{_≡_};
+ghost use mathlib.Core.Bool.{cond};
 ghost use Prim.Native.Nat.{_-_, _≤_};
-ghost use lib.ListN.{length, getD, take};
-ghost use Rattle.format_code.specs.Codes.{codeOf};
-ghost use Rattle.header_check.specs.forms.Cards.{cardsIn};
+ghost use lib.ListN.{length, getD};
+ghost use Rattle.card_screen.specs.Roles.{sure as isSureOf};
+ghost use Rattle.header_check.specs.forms.Cards.{cardsIn, layoutOf};
 ghost use Rattle.header_check.specs.packed.Notes.{notesTo};
+ghost use Rattle.header_check.specs.packed.Noted.{Noted};
 ghost use Rattle.header_check.specs.Opening.{codeNumber, goesOn};
-ghost use Rattle.header_check.specs.Refusing.{isUnknown, readable, placedVerdict, endVerdict, answerFor, cardsAnswer, refusalOf};
+ghost use Rattle.header_check.specs.Refusing.{isUnknown, placedVerdict, endVerdict, answerFor, cardsAnswer, largest, refusalOf};
 
 // The cards H0000 to H0007, which come first.
 const OPENING: usize = 8;
@@ -75,30 +76,33 @@ fn is_unknown(code: Code) -> bool
     }
 }
 
-// A card out of place: a 4 or a 5 comes first.
-fn judge_misplaced(card: &[u8], code: Code) -> Verdict
-    requires { ⌜ (length (now card) ≡ 80) × (code ≡ codeOf (take 5 (now card))) ⌝ }
-    ensures { λ r. ⌜ r ≡ readable (now (card .entry)) (Verdict.Offence 6 1) ⌝ }
+// A card out of place: a 5 comes first.
+fn judge_misplaced(code: Code) -> Verdict
+    ensures { λ r. ⌜ r ≡ cond (isUnknown code) (Verdict.Offence 5 1) (Verdict.Offence 6 1) ⌝ }
 {
-    let bad = printable::first_bad(card);
-    if bad < CARD {
-        return Verdict::Offence(UNPRINTABLE, bad + 1);
-    }
     if is_unknown(code) {
         return Verdict::Offence(UNKNOWN, 1);
     }
     Verdict::Offence(MISPLACED, 1)
 }
 
-// A card in its place or not.
-fn judge_placed(card: &[u8], code: Code, form: Form, placed: bool) -> Verdict
-    requires { ⌜ (length (now card) ≡ 80) × (code ≡ codeOf (take 5 (now card))) ⌝ }
+// A card in its place or not, by its layout: one in its place that the screen is sure of needs no judging.
+fn judge_placed(card: &[u8], layout: usize, sure: bool, form: Form, placed: bool) -> Verdict
+    requires { ⌜ (length (now card) ≡ 80) × (layout ≡ layoutOf (now card)) × (sure ≡ isSureOf layout (now card)) ⌝ }
     ensures { λ r. ⌜ r ≡ placedVerdict (now (card .entry)) form placed ⌝ }
 {
+    let bad = printable::first_bad(card);
+    if bad < CARD {
+        return Verdict::Offence(UNPRINTABLE, bad + 1);
+    }
+    if placed & sure {
+        return Verdict::Fine;
+    }
+    let code = forms::code_by(card, layout);
     if placed {
         return card_check::judge_by(card, code, form);
     }
-    judge_misplaced(card, code)
+    judge_misplaced(code)
 }
 
 // The place past the last card has a verdict like any card, so that the first offence decides for a whole header.
@@ -121,9 +125,11 @@ fn answer_for(verdict: Verdict, card: usize) -> Checked
     }
 }
 
-// All cards, with the notes of the forms that they state: the first offence decides. `inside` says that all cards so far belong
+// All cards, with what is noted of them and of the forms that they state: the first offence decides. `inside` says that all cards so far belong
 // to the opening block, `line` that an H00@8 is among those that do.
-fn check_cards(header: &[u8], notes: &[u8; NOTES]) -> Checked
+fn check_cards(header: &[u8], cards: &[u8; CARDS], notes: &[u8; NOTES]) -> Checked
+    requires { ⌜ Noted (now header) (cardsIn (now header)) (now cards) ⌝ }
+    requires { ⌜ cardsIn (now header) ≤ largest ⌝ }
     requires { ⌜ now notes ≡ notesTo (now header) (cardsIn (now header)) ⌝ }
     ensures { λ r. ⌜ r ≡ cardsAnswer (now (header .entry)) ⌝ }
 {
@@ -135,13 +141,13 @@ fn check_cards(header: &[u8], notes: &[u8; NOTES]) -> Checked
     while place < count {
         let from = place * CARD;
         let card = &header[from..from + CARD];
-        let code = format_code::code_of(&card[..CODE]);
-        let layout = forms::number_of(code);
+        let note = cards[place];
+        let layout = forms::layout_in(note);
         let form = forms::form_by(notes, layout, card);
         let number = code_number(card);
         inside = inside & goes_on(place, layout, before, number);
         let placed = inside | (line & (H00X9 < layout));
-        let verdict = judge_placed(card, code, form, placed);
+        let verdict = judge_placed(card, layout, forms::is_sure(note), form, placed);
         let Verdict::Fine = verdict else {
             return answer_for(verdict, place + 1);
         };
@@ -152,9 +158,11 @@ fn check_cards(header: &[u8], notes: &[u8; NOTES]) -> Checked
     answer_for(judge_end(line), count + 1)
 }
 
-// The answer to a header of whatever length and content.
-pub fn check(header: &[u8]) -> Checked
-    ensures { λ r. ⌜ r ≡ refusalOf (now (header .entry)) ⌝ }
+// The answer to a header of whatever length and content. Where it is accepted, its cards are noted in the lent array.
+pub fn check_noting(header: &[u8], cards: &mut [u8; CARDS]) -> Checked
+    requires { ⌜ length (now cards) ≡ largest ⌝ }
+    ensures answer { λ r. ⌜ r ≡ refusalOf (now (header .entry)) ⌝ }
+    ensures cards { λ r. ⌜ (r ≡ Checked.Accepted → Noted (now (header .entry)) (cardsIn (now (header .entry))) (now (cards .exit))) ⌝ }
 {
     if header.len() == 0 {
         return Checked::Refused(refuse(EMPTY, 0, 0));
@@ -165,6 +173,14 @@ pub fn check(header: &[u8]) -> Checked
     if CARDS < header.len() / CARD {
         return Checked::Refused(refuse(TOO_MANY, 0, 0));
     }
-    let notes = forms::notes_of(header);
-    check_cards(header, &notes)
+    let notes = forms::notes_of(header, cards);
+    check_cards(header, cards, &notes)
+}
+
+// The same where nobody asks what was noted.
+pub fn check(header: &[u8]) -> Checked
+    ensures { λ r. ⌜ r ≡ refusalOf (now (header .entry)) ⌝ }
+{
+    let mut cards = [0u8; CARDS];
+    check_noting(header, &mut cards)
 }

@@ -1,5 +1,4 @@
 -- How the code gathers definitions, counts them and walks over the cards. No promise to a caller cites this.
-pub mod Noted
 pub mod Numbers
 pub mod Gathered
 pub mod Totals

@@ -1,6 +1,7 @@
 // One pass over the cards of a header that puts every definition into the store.
 use format_layout::CARD;
 use format_layout::CARDS;
+use header_check::forms;
 use tie_rules::SLOTS;
 use tie_rules::keys;
 use tie_store::LINKS;
@@ -10,8 +11,8 @@ ghost use Prim.Native.Nat.{_+_, _≤_, _<_};
 ghost use lib.ListN.{replicate};
 ghost use Rattle.header_check.specs.forms.Cards.{cardsIn, layoutOf};
 ghost use Rattle.header_check.specs.Refusing.{largest};
+ghost use Rattle.header_check.specs.packed.Noted.{Noted};
 ghost use Rattle.tie_store.specs.Store.{onCard, room, linkRoom, countIn, Linked};
-ghost use Rattle.tie_check.specs.packed.Noted.{Noted};
 ghost use Rattle.tie_check.specs.packed.Gathered.{store, withNumber, withSlots, gathered};
 
 // One definition, by its number; 0 is none.
@@ -47,15 +48,10 @@ fn gather_card(keys: &mut [u64; ROOM], links: &mut [u16; LINKS], card: &[u8], la
     }
 }
 
-// The definitions of a header with its layouts at hand, in arrays of zeros.
-pub fn gather(
-    header: &[u8],
-    layouts: &[u8; CARDS],
-    keys: &mut [u64; ROOM],
-    links: &mut [u16; LINKS],
-)
+// The definitions of a header with its cards noted, in arrays of zeros.
+pub fn gather(header: &[u8], cards: &[u8; CARDS], keys: &mut [u64; ROOM], links: &mut [u16; LINKS])
     requires { ⌜ cardsIn (now header) ≤ largest ⌝ }
-    requires { ⌜ Noted (now header) (cardsIn (now header)) (now layouts) ⌝ }
+    requires { ⌜ Noted (now header) (cardsIn (now header)) (now cards) ⌝ }
     requires { ⌜ now keys ≡ replicate room 0 ⌝ }
     requires { ⌜ now links ≡ replicate linkRoom 0 ⌝ }
     ensures keys { λ _. ⌜ now (keys .exit) ≡ gathered (now (header .entry)) .keys ⌝ }
@@ -66,7 +62,7 @@ pub fn gather(
     while place < count {
         let from = place * CARD;
         let card = &header[from..from + CARD];
-        gather_card(keys, links, card, layouts[place] as usize);
+        gather_card(keys, links, card, forms::layout_in(cards[place]));
         place += 1;
     }
 }

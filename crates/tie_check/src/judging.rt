@@ -13,7 +13,7 @@ ghost use Rattle.tie_rules.specs.Faults.{differs};
 ghost use Rattle.tie_rules.specs.packed.Rows.{unmarked};
 ghost use Rattle.tie_store.specs.Store.{Linked};
 ghost use Rattle.tie_check.specs.packed.Kinds.{noneOf};
-ghost use Rattle.tie_check.specs.packed.Asked.{contradictedBy, vesselCount, miscountedBy, brokenBy, faultsBy};
+ghost use Rattle.tie_check.specs.packed.Asked.{contradictedBy, vesselCount, miscountedBy, brokenBy, toldDefined, faultsBy};
 
 // The column of H00@8 that states how many waypoints its vessel has.
 const WAYPOINT_COUNT: usize = 79;
@@ -110,6 +110,23 @@ fn unbroken() -> Broken
     }
 }
 
+// What is told of the key that the column of a row defines: nothing that matters where no key is defined twice.
+fn told_defined(
+    keys: &[u64; ROOM],
+    links: &[u16; LINKS],
+    single: bool,
+    card: &[u8],
+    row: u64,
+) -> Told
+    requires { ⌜ Linked (now keys) (now links) ⌝ }
+    ensures { λ r. ⌜ r ≡ toldDefined (now (keys .entry)) (now (links .entry)) single (now (card .entry)) row ⌝ }
+{
+    if single {
+        return tie_store::nothing();
+    }
+    tie_store::look_up(keys, links, keys::defined_by(card, row))
+}
+
 // The same by the store. Where no key is defined twice, a column that only defines has no fault.
 pub fn faults_by(
     keys: &[u64; ROOM],
@@ -127,6 +144,6 @@ pub fn faults_by(
     }
     let reference = keys::referred_by(card, row);
     let referred = tie_store::look_up(keys, links, reference);
-    let defined = tie_store::look_up(keys, links, keys::defined_by(card, row));
+    let defined = told_defined(keys, links, totals.single, card, row);
     judge_column(card, row, vessel, reference, referred, defined, totals)
 }

@@ -4,10 +4,10 @@ pub mod entries;
 pub mod gather;
 pub mod judging;
 pub mod listing;
-pub mod notes;
 pub mod totals;
 
 use base_refusal::Refusal;
+use format_layout::CARDS;
 use header_check::Checked;
 ghost use mathlib.Core.Path.{_≡_};
 ghost use lib.ListN.{length};
@@ -27,9 +27,10 @@ pub fn check(header: &[u8], list: &mut [u32]) -> Ties
     ensures list { λ _. ⌜ now (list .exit)
         ≡ listFor (refusalOf (now (header .entry))) (now (list .entry)) (entries (now (header .entry))) ⌝ }
 {
-    let checked = header_check::check(header);
+    let mut cards = [0u8; CARDS];
+    let checked = header_check::check_noting(header, &mut cards);
     match checked {
-        Checked::Accepted => Ties::Found(listing::list_faults(header, list)),
+        Checked::Accepted => Ties::Found(listing::list_faults(header, &cards, list)),
         Checked::Refused(refusal) => Ties::Refused(refusal),
     }
 }

@@ -3,12 +3,12 @@ use crate::begins;
 use crate::entries;
 use crate::gather;
 use crate::judging;
-use crate::notes;
 use crate::totals;
 use crate::totals::Totals;
 use format_layout::CARD;
 use format_layout::CARDS;
 use header_check::Checked;
+use header_check::forms;
 use tie_rules::keys;
 use tie_store::LINKS;
 use tie_store::ROOM;
@@ -19,7 +19,7 @@ ghost use Rattle.base_lists.specs.Laid.{laid};
 ghost use Rattle.tie_rules.specs.Faults.{kinds, faults, entrySize, entries};
 ghost use Rattle.header_check.specs.forms.Cards.{cardsIn};
 ghost use Rattle.header_check.specs.Refusing.{refusalOf};
-ghost use Rattle.tie_check.specs.packed.Noted.{Noted};
+ghost use Rattle.header_check.specs.packed.Noted.{Noted};
 ghost use Rattle.tie_check.specs.packed.Gathered.{gathered};
 ghost use Rattle.tie_check.specs.packed.Totals.{totalsOf};
 ghost use Rattle.tie_check.specs.packed.Listed.{cardEntries};
@@ -33,14 +33,14 @@ fn list_card(
     list: &mut [u32],
     found: usize,
     header: &[u8],
-    layouts: &[u8; CARDS],
+    cards: &[u8; CARDS],
     store: &[u64; ROOM],
     links: &[u16; LINKS],
     totals: Totals,
     place: usize,
 ) -> usize
     requires { ⌜ refusalOf (now header) ≡ Checked.Accepted ⌝ }
-    requires { ⌜ Noted (now header) (cardsIn (now header)) (now layouts) ⌝ }
+    requires { ⌜ Noted (now header) (cardsIn (now header)) (now cards) ⌝ }
     requires { ⌜ (now store ≡ gathered (now header) .keys) × (now links ≡ gathered (now header) .links) ⌝ }
     requires { ⌜ totals ≡ totalsOf (now header) ⌝ }
     requires { ⌜ (place < cardsIn (now header)) × (found ≤ 81 * kinds * place) ⌝ }
@@ -51,9 +51,10 @@ fn list_card(
 {
     let from = place * CARD;
     let card = &header[from..from + CARD];
-    let layout = layouts[place] as usize;
+    let note = cards[place];
+    let layout = forms::layout_in(note);
     let vessel = keys::vessel_of(card, layout);
-    let left = begins::any_left(card, layout);
+    let left = begins::any_left(card, layout, forms::is_sure(note));
     let mut m = found;
     let mut i: usize = 0;
     while i < STEPS {
@@ -81,13 +82,13 @@ fn list_card(
 fn list_cards(
     list: &mut [u32],
     header: &[u8],
-    layouts: &[u8; CARDS],
+    cards: &[u8; CARDS],
     store: &[u64; ROOM],
     links: &[u16; LINKS],
     totals: Totals,
 ) -> usize
     requires { ⌜ refusalOf (now header) ≡ Checked.Accepted ⌝ }
-    requires { ⌜ Noted (now header) (cardsIn (now header)) (now layouts) ⌝ }
+    requires { ⌜ Noted (now header) (cardsIn (now header)) (now cards) ⌝ }
     requires { ⌜ (now store ≡ gathered (now header) .keys) × (now links ≡ gathered (now header) .links) ⌝ }
     requires { ⌜ totals ≡ totalsOf (now header) ⌝ }
     ensures list { λ _. ⌜ now (list .exit) ≡ laid entrySize (now (list .entry)) (entries (now (header .entry))) ⌝ }
@@ -97,23 +98,22 @@ fn list_cards(
     let mut found: usize = 0;
     let mut place: usize = 0;
     while place < count {
-        found = list_card(list, found, header, layouts, store, links, totals, place);
+        found = list_card(list, found, header, cards, store, links, totals, place);
         place += 1;
     }
     found
 }
 
-// The faults of a header that was accepted.
-pub fn list_faults(header: &[u8], list: &mut [u32]) -> usize
+// The faults of a header that was accepted, with its cards noted.
+pub fn list_faults(header: &[u8], cards: &[u8; CARDS], list: &mut [u32]) -> usize
     requires { ⌜ refusalOf (now header) ≡ Checked.Accepted ⌝ }
+    requires { ⌜ Noted (now header) (cardsIn (now header)) (now cards) ⌝ }
     ensures list { λ _. ⌜ now (list .exit) ≡ laid entrySize (now (list .entry)) (entries (now (header .entry))) ⌝ }
     ensures number { λ r. ⌜ r ≡ length (faults (now (header .entry))) ⌝ }
 {
-    let mut layouts = [0u8; CARDS];
     let mut store = [0u64; ROOM];
     let mut links = [0u16; LINKS];
-    notes::note_layouts(header, &mut layouts);
-    gather::gather(header, &layouts, &mut store, &mut links);
-    let totals = totals::totals_of(header, &layouts, &store, &links);
-    list_cards(list, header, &layouts, &store, &links, totals)
+    gather::gather(header, cards, &mut store, &mut links);
+    let totals = totals::totals_of(header, cards, &store, &links);
+    list_cards(list, header, cards, &store, &links, totals)
 }

@@ -91,7 +91,7 @@ fn times_of(keys: &[u64; ROOM], links: &[u16; LINKS], key: u64) -> usize
 }
 
 // What is told where nothing has a key.
-fn nothing() -> Told
+pub fn nothing() -> Told
     ensures { λ r. ⌜ r ≡ nothingTold ⌝ }
 {
     Told {

@@ -14,13 +14,13 @@ use Rattle.card_screen.proofs.is_fine.Statement.{statement}
 use Rattle.card_screen.proofs.is_fine.Tie as tie
 
 abbrev Inv-loop : tie.InvT-loop
-Inv-loop card layout state₀ row₀ state row =
+Inv-loop table card layout state₀ row₀ state row =
     (row ≤ 5) × (layout < 31) × (plain layout ≡ true)
     × (runs (rolesOf layout) card 24 ≡ runs (drop (16 * row) (rolesOf layout)) (drop (16 * row) card) state) × (state < 64) × (state % 8 ≡ 0)
     × (length card ≡ 80)
 
 abbrev μ-loop : tie.MeasureT-loop
-μ-loop card layout state₀ row₀ state row = 5 - row
+μ-loop table card layout state₀ row₀ state row = 5 - row
 
 returns : tie.Need-returns Inv-loop μ-loop
 returns c = not-plain (c .before .before .args .layout) _ (past-plain (c .before .before .args .layout) (c .if1 .taken))
@@ -36,7 +36,7 @@ returns-2 c = first-none (c .before .before .before .before .args .layout) _ _ (
 
 loop-holds : tie.Need-loop-holds Inv-loop μ-loop
 loop-holds c =
-    (omega arith, omega (arith, c .before .before .if1 .left), first-plain (c .before .before .before .before .args .layout) _ (c .before .roles-at .ensures) (c .if2 .left), refl, omega arith, refl, c .before .before .before .before .pre)
+    (omega arith, omega (arith, c .before .before .if1 .left), first-plain (c .before .before .before .before .args .layout) _ (c .before .roles-at .ensures) (c .if2 .left), refl, omega arith, refl, c .before .before .before .before .pre .1)
 
 mul-run-row : tie.Need-mul-run-row Inv-loop μ-loop
 mul-run-row c = omega arith
@@ -51,7 +51,10 @@ roles-at-requires-2 : tie.Need-roles-at-requires-2 Inv-loop μ-loop
 roles-at-requires-2 c κs = search needs
 
 run-row-requires : tie.Need-run-row-requires Inv-loop μ-loop
-run-row-requires c κs = let v = c .before .before .loop .inv in (v .6, omega arith, v .4, v .5)
+run-row-requires c κs =
+    let b = c .before .before in
+    let v = b .loop .inv in
+    (b .before .before .before .before .before .pre .0, (v .6, omega arith, v .4, v .5))
 
 returns-3 : tie.Need-returns-3 Inv-loop μ-loop
 returns-3 c =

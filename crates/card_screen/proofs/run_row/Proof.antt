@@ -10,16 +10,13 @@ use Rattle.card_screen.proofs.run_row.Statement.{statement}
 use Rattle.card_screen.proofs.run_row.Tie as tie
 
 abbrev Inv-loop : tie.InvT-loop
-Inv-loop card from roles state rest₀ s₀ i₀ rest s i = (i ≤ 16) × (rest ≡ roles / 16 ^ i) × (s ≡ runTo card from roles state i) × (s < 64) × (s % 8 ≡ 0)
+Inv-loop table card from roles state rest₀ s₀ i₀ rest s i = (i ≤ 16) × (rest ≡ roles / 16 ^ i) × (s ≡ runTo card from roles state i) × (s < 64) × (s % 8 ≡ 0)
 
 abbrev μ-loop : tie.MeasureT-loop
-μ-loop card from roles state rest₀ s₀ i₀ rest s i = 16 - i
+μ-loop table card from roles state rest₀ s₀ i₀ rest s i = 16 - i
 
 loop-holds : tie.Need-loop-holds Inv-loop μ-loop
-loop-holds c = (omega arith, roles-none _, run-none _ _ _ _, c .before .pre .2, c .before .pre .3)
-
-cast-next : tie.Need-cast-next Inv-loop μ-loop
-cast-next c = search needs
+loop-holds c = (omega arith, roles-none _, run-none _ _ _ _, c .before .pre .1 .2, c .before .pre .1 .3)
 
 add-next : tie.Need-add-next Inv-loop μ-loop
 add-next c = omega arith
@@ -28,7 +25,9 @@ shared-slice-read-next : tie.Need-shared-slice-read-next Inv-loop μ-loop
 shared-slice-read-next c = omega arith
 
 next-requires : tie.Need-next-requires Inv-loop μ-loop
-next-requires c κs = let v = c .before .before .loop .inv in (v .3, v .4, omega arith)
+next-requires c κs =
+    let b = c .before .before in
+    (b .before .before .pre .0, (b .loop .inv .3, b .loop .inv .4, omega arith))
 
 add-i : tie.Need-add-i Inv-loop μ-loop
 add-i c = omega arith
@@ -48,4 +47,4 @@ returns c = let v = c .before .loop .inv in (run-all _ _ _ _ _ _ (v .0) (omega a
 pub run-row-spec : {M : Type 1} → statement M
 run-row-spec =
     tie.close
-    (tie.spec Inv-loop μ-loop loop-holds cast-next add-next shared-slice-read-next next-requires add-i loop-less loop-again returns)
+    (tie.spec Inv-loop μ-loop loop-holds add-next shared-slice-read-next next-requires add-i loop-less loop-again returns)

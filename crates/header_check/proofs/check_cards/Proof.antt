@@ -1,16 +1,16 @@
 -- `header_check::check_cards` meets its contract.
 use Prim.Native.Nat.{_+_, _*_, _-_, _/_, _≤_}
-use mathlib.Core.Path.{_≡_, refl, sym}
+use mathlib.Core.Path.{_≡_, refl, sym, ap, ap₂, _∙_}
 use mathlib.Core.Bool.{_&&_}
 use lib.ListN.{length, take, drop}
-use lib.Seq.{length-take-le}
 use denote.Ref.{now}
 use native.Mathlib.Omega.{arith}
 use borrow.Author.Needs.{needs}
+use Rattle.card_screen.specs.Roles.{sure}
 use Rattle.base_lists.specs.Count.{first, firstFrom}
 use Rattle.base_lists.proofs.Finding.{begins}
-use Rattle.header_check.specs.forms.Cards.{cardsIn}
-use Rattle.header_check.proofs.forms.Steps.{card-part, card-ends, card-whole, coded}
+use Rattle.header_check.specs.forms.Cards.{cardsIn, layoutOf}
+use Rattle.header_check.proofs.forms.Steps.{card-part, card-ends, card-whole}
 use Rattle.header_check.specs.Opening.{numberBefore}
 use Rattle.header_check.specs.Refusing.{verdictAt, offends}
 use Rattle.header_check.proofs.Block.{openTo, none-open, lineTo, none-line}
@@ -19,13 +19,13 @@ use Rattle.header_check.proofs.check_cards.Statement.{statement}
 use Rattle.header_check.proofs.check_cards.Tie as tie
 
 abbrev Inv-loop : tie.InvT-loop
-Inv-loop header notes count inside₀ before₀ line₀ place₀ inside before line place =
+Inv-loop header cards notes count inside₀ before₀ line₀ place₀ inside before line place =
     (place ≤ length header / 80) × (inside ≡ openTo header place) × (before ≡ numberBefore header place)
     × (line ≡ lineTo header place)
     × (first (offends header) (cardsIn header) ≡ firstFrom (offends header) (cardsIn header - place) place)
 
 abbrev μ-loop : tie.MeasureT-loop
-μ-loop header notes count inside₀ before₀ line₀ place₀ inside before line place = length header / 80 - place
+μ-loop header cards notes count inside₀ before₀ line₀ place₀ inside before line place = length header / 80 - place
 
 loop-holds : tie.Need-loop-holds Inv-loop μ-loop
 unfolding numberBefore
@@ -36,19 +36,30 @@ within : (c : tie.In-loop Inv-loop μ-loop)
     → c .before .loop .place * 80 + 80 ≤ length (now (c .before .before .before .args .header))
 within c = card-ends (now (c .before .before .before .args .header)) (c .before .loop .place) (c .loop-test .taken)
 
+-- its layout is the one that is noted
+layout-is : (c : tie.After-layout-in Inv-loop μ-loop)
+    → c .layout-in .result ≡ layoutOf (take (c .before .before .before .before .loop .place * 80 + 80 - c .before .before .before .before .loop .place * 80)
+    (drop (c .before .before .before .before .loop .place * 80) (now (c .before .before .before .before .before .before .args .header))))
+unfolding cardsIn
+layout-is c =
+    let l = c .before .before .before in
+    let b = l .before .loop in
+    let s = l .before .before .before in
+    c .layout-in .ensures ∙ s .pre .0 .layouts-are (b .place) (l .loop-test .taken)
+    ∙ ap layoutOf (sym (card-part (now (s .args .header)) (b .place)))
+
 -- whether the cards up to it belong to the opening block
 inside-is : (c : tie.After-goes-on Inv-loop μ-loop)
-    → c .before .before .before .before .before .before .before .before .loop .inside && c .goes-on .result
-    ≡ openTo (now (c .before .before .before .before .before .before .before .before .before .before .args .header))
-    (c .before .before .before .before .before .before .before .before .loop .place + 1)
+    → c .before .before .before .before .before .before .before .loop .inside && c .goes-on .result
+    ≡ openTo (now (c .before .before .before .before .before .before .before .before .before .args .header))
+    (c .before .before .before .before .before .before .before .loop .place + 1)
 unfolding cardsIn
 inside-is c =
-    let coding = c .before .before .before in
-    let card = coding .before .before .before in
-    let b = card .before .before .loop in
-    let h = now (card .before .before .before .before .args .header) in
-    next-open h _ (b .place) _ _ _ _ _ (card-part h (b .place)) (card .before .loop-test .taken)
-    (coded _ _ _ (coding .before .code-of .ensures) (coding .number-of .ensures)) (c .before .code-number .ensures)
+    let y = c .before .before .before in
+    let l = y .before .before .before in
+    let b = l .before .loop in
+    let h = now (l .before .before .before .args .header) in
+    next-open h _ (b .place) _ _ _ _ _ (card-part h (b .place)) (l .loop-test .taken) (layout-is y) (c .before .code-number .ensures)
     (b .inv .2) (b .inv .1) (c .goes-on .ensures)
 
 -- what is found there is its verdict
@@ -57,15 +68,16 @@ verdict-is : (c : tie.After-judge-placed Inv-loop μ-loop)
     (c .before .before .before .before .before .before .before .before .before .loop .place)
 unfolding cardsIn
 verdict-is c =
-    let coding = c .before .before .before .before in
-    let card = coding .before .before .before in
-    let known = card .before .before .before in
-    let b = card .before .before .loop in
+    let g = c .before .before in
+    let f = g .before .before in
+    let y = f .before in
+    let l = y .before .before .before in
+    let known = l .before .before in
+    let b = l .before .loop in
     let h = now (known .before .args .header) in
-    found h (now (known .before .args .notes)) _ (b .place) _ _ _ _ _ _ (known .before .pre) (card-part h (b .place))
-    (card .before .loop-test .taken) (vessel-byte h (λ i. omega (arith, known .shared-slice-known .given i)) (b .place))
-    (coded _ _ _ (coding .before .code-of .ensures) (coding .number-of .ensures)) (c .before .before .before .form-by .ensures)
-    (inside-is (c .before)) (b .inv .3) refl (c .judge-placed .ensures)
+    found h (now (known .before .args .notes)) _ (b .place) _ _ _ _ _ _ (known .before .pre .1 .1) (card-part h (b .place))
+    (l .loop-test .taken) (vessel-byte h (λ i. omega (arith, known .shared-slice-known .given i)) (b .place))
+    (layout-is y) (f .form-by .ensures) (inside-is g) (b .inv .3) refl (c .judge-placed .ensures)
 
 mul-from : tie.Need-mul-from Inv-loop μ-loop
 mul-from c = omega (arith, within c)
@@ -82,18 +94,16 @@ part-card-start c = omega (arith, within c)
 part-card-end : tie.Need-part-card-end Inv-loop μ-loop
 part-card-end c = omega (arith, within c)
 
-slice-aggregate-code-of : tie.Need-slice-aggregate-code-of Inv-loop μ-loop
-slice-aggregate-code-of c =
-    let loop = c .before .before in
-    let h = now (loop .before .before .before .args .header) in
-    let p = loop .before .loop .place in
-    sym (length-take-le 5 (take (p * 80 + 80 - p * 80) (drop (p * 80) h)) (omega (arith, card-whole h p (loop .loop-test .taken))))
+-- a note is there for the card
+element-copy-out-note : tie.Need-element-copy-out-note Inv-loop μ-loop
+unfolding cardsIn
+element-copy-out-note c =
+    let l = c .before in
+    let s = l .before .before .before in
+    omega (arith, l .loop-test .taken, s .pre .1 .0, s .pre .0 .room)
 
-code-of-requires : tie.Need-code-of-requires Inv-loop μ-loop
-code-of-requires c κs = search needs
-
-number-of-requires : tie.Need-number-of-requires Inv-loop μ-loop
-number-of-requires c κs = search needs
+layout-in-requires : tie.Need-layout-in-requires Inv-loop μ-loop
+layout-in-requires c κs = search needs
 
 form-by-requires : tie.Need-form-by-requires Inv-loop μ-loop
 form-by-requires c κs = search needs
@@ -104,12 +114,22 @@ code-number-requires c κs = search needs
 goes-on-requires : tie.Need-goes-on-requires Inv-loop μ-loop
 goes-on-requires c κs = search needs
 
+is-sure-requires : tie.Need-is-sure-requires Inv-loop μ-loop
+is-sure-requires c κs = search needs
+
 judge-placed-requires : tie.Need-judge-placed-requires Inv-loop μ-loop
+unfolding cardsIn
 judge-placed-requires c κs =
-    let coding = c .before .before .before in
-    let loop = coding .before .before .before .before in
-    let start = loop .before .before .before in
-    (card-whole (now (start .args .header)) (loop .before .loop .place) (loop .loop-test .taken), coding .before .code-of .ensures)
+    let y = c .before .before .before .before in
+    let l = y .before .before .before in
+    let b = l .before .loop in
+    let s = l .before .before .before in
+    let h = now (s .args .header) in
+    let e = card-part h (b .place) in (
+      card-whole h (b .place) (l .loop-test .taken),
+      layout-is y,
+      c .is-sure .ensures ∙ s .pre .0 .sures-are (b .place) (l .loop-test .taken) ∙ ap₂ sure (sym (layout-is y ∙ ap layoutOf e)) (sym e),
+    )
 
 enum-told : tie.Need-enum-told Inv-loop μ-loop
 enum-told c = search needs
@@ -142,16 +162,16 @@ loop-again : tie.Need-loop-again Inv-loop μ-loop
 unfolding cardsIn
 loop-again c =
     let judged = c .before .before in
-    let coding = judged .before .before .before .before in
-    let loop = coding .before .before .before .before in
-    let b = loop .before .loop in
-    let h = now (loop .before .before .before .args .header) in (
+    let g = judged .before .before in
+    let y = g .before .before .before in
+    let l = y .before .before .before in
+    let b = l .before .loop in
+    let h = now (l .before .before .before .args .header) in (
       omega arith,
-      inside-is (judged .before),
-      next-before h _ (b .place) _ (card-part h (b .place)) (judged .before .before .code-number .ensures),
-      next-line h _ (b .place) _ _ _ (card-part h (b .place)) (coded _ _ _ (coding .before .code-of .ensures) (coding .number-of .ensures))
-          (inside-is (judged .before)) (b .inv .3),
-      goes-on h (b .place) (loop .loop-test .taken) (b .inv .4) (judged .judge-placed .result) (verdict-is judged)
+      inside-is g,
+      next-before h _ (b .place) _ (card-part h (b .place)) (g .before .code-number .ensures),
+      next-line h _ (b .place) _ _ _ (card-part h (b .place)) (layout-is y) (inside-is g) (b .inv .3),
+      goes-on h (b .place) (l .loop-test .taken) (b .inv .4) (judged .judge-placed .result) (verdict-is judged)
           (c .enum-told .given .1),
     )
 
@@ -184,12 +204,12 @@ check-cards-spec =
     sub-card
     part-card-start
     part-card-end
-    slice-aggregate-code-of
-    code-of-requires
-    number-of-requires
+    element-copy-out-note
+    layout-in-requires
     form-by-requires
     code-number-requires
     goes-on-requires
+    is-sure-requires
     judge-placed-requires
     enum-told
     enum-told-2

@@ -81,21 +81,3 @@ coded-exactly s k h = (λ e. fitting (read-by (codeOf t) k h e), λ f. ap number
     fitting e =
         ap (λ (p : List ℕ). fits p t) (sym (code-is k h))
         ∙ stops-at codes t k (place-of (placeIn codes t) k e) (omega (arith, codes-count))
-
--- a card that states a form has a 0 in its second column
-zero-line : (s : List ℕ) → layoutOf s ≡ H00X8 → getD s 1 0 ≡ 48
-unfolding fitsAt byteFits layoutAt layouts
-zero-line s e =
-    let f : fits (layoutAt H00X8 .code) (take 5 s) ≡ true = coded-exactly s H00X8 (omega arith) .0 e in
-    let z : eqb 48 (getD (take 5 s) 1 0) ≡ true = in-each (layoutAt H00X8 .code) (take 5 s) f .second in
-    sym (getD-take 5 s 1 0 (omega arith)) ∙ sym (eqb-true 48 (getD (take 5 s) 1 0) z)
-
-zero-grid : (s : List ℕ) → layoutOf s ≡ H0100 → getD s 1 0 ≡ 48
-unfolding fitsAt byteFits layoutAt layouts
-zero-grid s e =
-    let f : fits (layoutAt H0100 .code) (take 5 s) ≡ true = coded-exactly s H0100 (omega arith) .0 e in
-    let z : eqb 48 (getD (take 5 s) 1 0) ≡ true = in-each (layoutAt H0100 .code) (take 5 s) f .second in
-    sym (getD-take 5 s 1 0 (omega arith)) ∙ sym (eqb-true 48 (getD (take 5 s) 1 0) z)
-
-pub seen-none : (t s : List ℕ) (b : ℕ) → b ≡ getD s 1 0 → (b ≡ 48 → ⊥) → t ≡ noteCard t s
-seen-none t s b e n = seen-other t s (layoutOf s) refl (λ q. n (e ∙ zero-line s q)) (λ q. n (e ∙ zero-grid s q))

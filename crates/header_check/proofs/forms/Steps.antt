@@ -32,11 +32,11 @@ unfolding layoutOf
 coded s k n e q = q ∙ ap numberOf e
 
 -- a layout's number is small
-pub layout-small : (s : List ℕ) → layoutOf s < 256
+pub layout-small : (s : List ℕ) → layoutOf s < 128
 unfolding layoutOf codeOf codeAt
 layout-small s = go (placeIn codes (take 5 s)) _ (ltb (placeIn codes (take 5 s)) (length codes)) refl
   where
-    go : (n : ℕ) (a b : Bool) → ltb n (length layouts) ≡ a → numberOf (cond a (code.Read n) (cond b code.Passed code.Unknown)) < 256
+    go : (n : ℕ) (a b : Bool) → ltb n (length layouts) ≡ a → numberOf (cond a (code.Read n) (cond b code.Passed code.Unknown)) < 128
     go n true b e = omega (arith, ltb-true n (length layouts) e, layouts-count)
     go n false true e = omega arith
     go n false false e = omega arith

@@ -6,16 +6,17 @@ use borrow.Author.Needs.{needs}
 use Rattle.tie_check.proofs.check.Statement.{statement}
 use Rattle.tie_check.proofs.check.Tie as tie
 
-check-requires : tie.Need-check-requires
-check-requires c κs = search needs
+check-noting-requires : tie.Need-check-noting-requires
+check-noting-requires c κs = refl
 
 enum-told : tie.Need-enum-told
 enum-told c = search needs
 
 list-faults-requires : tie.Need-list-faults-requires
 list-faults-requires c κs =
-    let e = c .before in
-    sym (e .before .before .check .ensures) ∙ e .enum-told .given .1
+    let e = c .before .before in
+    let n = e .before .before .check-noting in
+    (sym (n .ensures .0) ∙ e .enum-told .given .1, n .ensures .1 (e .enum-told .given .1))
 
 enum-known-checked : tie.Need-enum-known-checked
 enum-known-checked c = search needs
@@ -27,22 +28,22 @@ returns : tie.Need-returns
 unfolding answerFor listFor
 returns c =
     let f = c .before .before in
-    let e = f .before .before in
-    let q = sym (e .before .before .check .ensures) ∙ e .enum-told .given .1 in
+    let e = f .before .before .before in
+    let q = sym (e .before .before .check-noting .ensures .0) ∙ e .enum-told .given .1 in
     rw q (ap Found (f .list-faults .ensures .1), f .list-faults .ensures .0)
 
 returns-2 : tie.Need-returns-2
 unfolding answerFor listFor
 returns-2 c =
     let k = c .before in
-    let q = sym (k .before .before .check .ensures) ∙ k .checked .given .1 in
+    let q = sym (k .before .before .check-noting .ensures .0) ∙ k .checked .given .1 in
     rw q (refl, refl)
 
 pub check-spec : {M : Type 1} → statement M
 check-spec =
     tie.close
     (tie.spec
-    check-requires
+    check-noting-requires
     enum-told
     list-faults-requires
     enum-known-checked

@@ -3,6 +3,7 @@ use Prim.Native.Nat.{ℕ, _≤_, _<_}
 use mathlib.Core.Path.{_≡_, refl, sym}
 use mathlib.Core.Bool.{Bool, true, false, cond, _&&_}
 use mathlib.Core.List.{List}
+use lib.Dec.{ltb}
 use borrow.Author.Tests.{le-ltb}
 use Rattle.base_digits.proofs.digits.Bools.{and-left, and-right}
 use Rattle.value_text.specs.text.Texts.{printable}
@@ -12,7 +13,7 @@ use Rattle.tie_rules.specs.Ties.{defines, refers}
 use Rattle.tie_rules.specs.Keys.{vesselOf}
 use Rattle.tie_rules.specs.packed.Rows.{rowAt, definitionIn, referenceIn, onlyDefines, foundIn}
 use Rattle.tie_store.specs.declared.Told.{Told}
-use Rattle.tie_store.specs.Store.{toldOf}
+use Rattle.tie_store.specs.Store.{nothingTold, toldOf}
 use Rattle.tie_check.specs.declared.totals.Totals.{Totals}
 use Rattle.tie_rules.proofs.keys.Table.{
   column-told,
@@ -25,7 +26,7 @@ use Rattle.tie_rules.proofs.keys.Table.{
 use Rattle.tie_check.specs.packed.Gathered.{gathered}
 use Rattle.tie_check.specs.packed.Totals.{totalsOf}
 use Rattle.tie_check.specs.packed.Kinds.{brokenFor, noneOf}
-use Rattle.tie_check.specs.packed.Asked.{brokenBy, faultsBy}
+use Rattle.tie_check.specs.packed.Asked.{timesOf, brokenBy, toldDefined, faultsBy}
 use Rattle.tie_check.proofs.judging.Answered.{told-times, told-apart, defined-once}
 use Rattle.tie_check.proofs.judging.Defining.{not-undefined, not-ambiguous, not-contradicted, not-miscounted}
 use Rattle.tie_check.proofs.judging.Rows.{number, undefined-by, redefined-by, ambiguous-by, contradicted-by}
@@ -62,14 +63,25 @@ module _ (h : List ℕ) (few : cardsIn h ≤ largest) (printed : (c : ℕ) → c
   abbrev definition : ℕ
   definition = foundIn (definitionIn row) s
 
+  -- nothing has to be asked of a definition where no key is defined twice
+  twice : ltb 1 (toldDefined (gathered h .keys) (gathered h .links) (totalsOf h .single) s row .times)
+      ≡ ltb 1 (timesOf h (number h printed s column clean defines))
+  unfolding toldDefined nothingTold totalsOf
+  twice = go (totalsOf h .single) refl
+    where
+      go : (b : Bool) → totalsOf h .single ≡ b
+          → ltb 1 (cond b nothingTold (toldOf (gathered h .keys) (gathered h .links) definition) .times)
+          ≡ ltb 1 (timesOf h (number h printed s column clean defines))
+      go true e = sym (le-ltb 1 _ (defined-once h few e (number h printed s column clean defines)))
+      go false e = rw (definition-found k column low s, told-times h few (number h printed s column clean defines))
+
   looked : brokenBy s row (vesselOf s) reference (toldOf (gathered h .keys) (gathered h .links) reference)
-      (toldOf (gathered h .keys) (gathered h .links) definition) (totalsOf h) ≡ brokenFor h s column
+      (toldDefined (gathered h .keys) (gathered h .links) (totalsOf h .single) s row) (totalsOf h) ≡ brokenFor h s column
   unfolding brokenBy brokenFor
   looked = rw (
+    twice,
     reference-found k column low s,
-    definition-found k column low s,
     told-times h few (number h printed s column clean refers),
-    told-times h few (number h printed s column clean defines),
     undefined-by h printed s column clean,
     redefined-by h printed s column clean,
     ambiguous-by h printed s column clean,
@@ -84,7 +96,7 @@ module _ (h : List ℕ) (few : cardsIn h ≤ largest) (printed : (c : ℕ) → c
     where
       go : (b : Bool) → (totalsOf h .single && onlyDefines row) ≡ b
           → cond b noneOf (brokenBy s row (vesselOf s) reference (toldOf (gathered h .keys) (gathered h .links) reference)
-          (toldOf (gathered h .keys) (gathered h .links) definition) (totalsOf h)) ≡ brokenFor h s column
+          (toldDefined (gathered h .keys) (gathered h .links) (totalsOf h .single) s row) (totalsOf h)) ≡ brokenFor h s column
       go true e = spared e
       go false e = looked
 
@@ -94,9 +106,9 @@ module _ (keys links : List ℕ) (totals : Totals) (s : List ℕ) (vessel row : 
   unfolding faultsBy
   passed-over b is e = rw (← is, e)
 
-  pub looked-at : (b : Bool) (reference definition : ℕ) (referred defined : Told) → b ≡ onlyDefines row → (totals .single && b) ≡ false
+  pub looked-at : (b : Bool) (reference : ℕ) (referred defined : Told) → b ≡ onlyDefines row → (totals .single && b) ≡ false
       → reference ≡ foundIn (referenceIn row) s → referred ≡ toldOf keys links reference
-      → definition ≡ foundIn (definitionIn row) s → defined ≡ toldOf keys links definition
+      → defined ≡ toldDefined keys links (totals .single) s row
       → brokenBy s row vessel reference referred defined totals ≡ faultsBy keys links totals s vessel row
   unfolding faultsBy
-  looked-at b reference definition referred defined is e p q r t = rw (← is, e, t, q, p, r)
+  looked-at b reference referred defined is e p q t = rw (← is, e, t, q, p)

@@ -21,7 +21,7 @@ use Rattle.tie_rules.proofs.key_laws.Found.{Small, small-in}
 use Rattle.tie_rules.specs.packed.Numbers.{vesselIn}
 use Rattle.tie_store.specs.Store.{countIn}
 use Rattle.tie_check.specs.declared.totals.Totals.{Totals}
-use Rattle.tie_check.specs.packed.Noted.{pointsTo}
+use Rattle.tie_check.specs.packed.Totals.{pointsTo}
 use Rattle.tie_check.specs.packed.Gathered.{gathered, entriesPassing}
 use Rattle.tie_check.specs.packed.Totals.{totalsOf}
 use Rattle.tie_check.proofs.gather.Growing.{all-pass}

@@ -11,7 +11,7 @@ use Rattle.tie_rules.specs.Faults.{differs}
 use Rattle.tie_rules.specs.packed.Numbers.{vesselIn}
 use Rattle.tie_rules.specs.packed.Rows.{columnIn, definitionIn, referenceIn, ownIn, countedIn, onlyDefines, foundIn}
 use Rattle.tie_store.specs.declared.Told.{Told}
-use Rattle.tie_store.specs.Store.{toldOf}
+use Rattle.tie_store.specs.Store.{nothingTold, toldOf}
 use Rattle.tie_check.specs.declared.entries.Broken.{Broken}
 use Rattle.tie_check.specs.declared.totals.Totals.{Totals}
 use Rattle.tie_check.specs.packed.Numbers.{passing}
@@ -64,9 +64,13 @@ brokenBy s row vessel reference referred defined totals = record {
   miscounted = miscountedBy s row totals;
 }
 
+-- what is told of the key that a row's column defines: nothing where no key is defined twice
+unfoldable pub toldDefined : List ℕ → List ℕ → Bool → List ℕ → ℕ → Told
+toldDefined keys links single s row = cond single nothingTold (toldOf keys links (foundIn (definitionIn row) s))
+
 -- the same by the store; where no key is defined twice, a column that only defines has none
 unfoldable pub faultsBy : List ℕ → List ℕ → Totals → List ℕ → ℕ → ℕ → Broken
 faultsBy keys links totals s vessel row =
     cond (totals .single && onlyDefines row) noneOf
     (brokenBy s row vessel (foundIn (referenceIn row) s) (toldOf keys links (foundIn (referenceIn row) s))
-    (toldOf keys links (foundIn (definitionIn row) s)) totals)
+    (toldDefined keys links (totals .single) s row) totals)

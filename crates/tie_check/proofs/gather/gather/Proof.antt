@@ -9,17 +9,16 @@ use Rattle.header_check.specs.forms.Cards.{cardsIn, layoutOf}
 use Rattle.header_check.specs.Refusing.{largest}
 use Rattle.header_check.proofs.forms.Steps.{card-part, card-ends}
 use Rattle.tie_check.specs.packed.Gathered.{gatheredTo, gathered}
-use Rattle.tie_check.proofs.notes.Noting.{fits-byte}
 use Rattle.tie_check.proofs.gather.Growing.{cards-well, card-more}
 use Rattle.tie_check.proofs.gather.gather.Statement.{statement}
 use Rattle.tie_check.proofs.gather.gather.Tie as tie
 
 abbrev Inv-loop : tie.InvT-loop
-Inv-loop header layouts keys₀ links₀ count place₀ keys links place =
+Inv-loop header cards keys₀ links₀ count place₀ keys links place =
     (place ≤ length header / 80) × (keys ≡ gatheredTo header place .keys) × (links ≡ gatheredTo header place .links)
 
 abbrev μ-loop : tie.MeasureT-loop
-μ-loop header layouts keys₀ links₀ count place₀ keys links place = length header / 80 - place
+μ-loop header cards keys₀ links₀ count place₀ keys links place = length header / 80 - place
 
 loop-holds : tie.Need-loop-holds Inv-loop μ-loop
 unfolding gatheredTo
@@ -52,26 +51,23 @@ below : (c : tie.In-loop Inv-loop μ-loop) → c .before .loop .place < largest
 unfolding cardsIn
 below c = omega (arith, c .loop-test .taken, c .before .before .before .pre .0)
 
-element-copy-out-gather-card : tie.Need-element-copy-out-gather-card Inv-loop μ-loop
-element-copy-out-gather-card c =
+element-copy-out-layout-in : tie.Need-element-copy-out-layout-in Inv-loop μ-loop
+element-copy-out-layout-in c =
     let l = c .before .before .before in
     omega (arith, below l, l .before .before .before .pre .1 .0 .room)
 
-cast-gather-card : tie.Need-cast-gather-card Inv-loop μ-loop
-unfolding cardsIn
-cast-gather-card c =
-    let l = c .before .before .before .before in
-    let k = fits-byte _ _ (l .before .before .before .pre .1 .0 .layouts-are (l .before .loop .place) (l .loop-test .taken)) in
-    record { fits = omega (arith, k) }
+layout-in-requires : tie.Need-layout-in-requires Inv-loop μ-loop
+layout-in-requires c κs = search needs
 
 gather-card-requires : tie.Need-gather-card-requires Inv-loop μ-loop
 unfolding cardsIn
 gather-card-requires c κs =
-    let l = c .before .before .before .before in
+    let l = c .before .before .before .before .before in
     let b = l .before .loop in
     let s = l .before .before .before in
     let h = now (s .args .header) in
-    let k = s .pre .1 .0 .layouts-are (b .place) (l .loop-test .taken) ∙ ap layoutOf (sym (card-part h (b .place))) in
+    let n = s .pre .1 .0 .layouts-are (b .place) (l .loop-test .taken) in
+    let k = c .layout-in .ensures ∙ n ∙ ap layoutOf (sym (card-part h (b .place))) in
     let w = cards-well h (b .place) (omega (arith, l .loop-test .taken, s .pre .0)) in
     (k, rw (b .inv .1, b .inv .2) (w .linked, omega (arith, w .few, l .loop-test .taken, s .pre .0)))
 
@@ -83,7 +79,7 @@ loop-less c = search needs
 
 loop-again : tie.Need-loop-again Inv-loop μ-loop
 loop-again c =
-    let l = c .before .before .before .before .before in
+    let l = c .before .before .before .before .before .before in
     let b = l .before .loop in
     let h = now (l .before .before .before .args .header) in
     let e = card-more h (b .place) _ _ _ _ _ (card-part h (b .place)) (b .inv .1) (b .inv .2) (c .gather-card .ensures .0)
@@ -110,8 +106,8 @@ gather-spec =
     sub-card
     part-card-start
     part-card-end
-    element-copy-out-gather-card
-    cast-gather-card
+    element-copy-out-layout-in
+    layout-in-requires
     gather-card-requires
     add-place
     loop-less

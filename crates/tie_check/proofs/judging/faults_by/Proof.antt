@@ -27,19 +27,15 @@ referred-by-requires c κs = search needs
 look-up-requires : tie.Need-look-up-requires
 look-up-requires c κs = search needs
 
-defined-by-requires : tie.Need-defined-by-requires
-defined-by-requires c κs = search needs
-
-look-up-requires-2 : tie.Need-look-up-requires-2
-look-up-requires-2 c κs = search needs
+told-defined-requires : tie.Need-told-defined-requires
+told-defined-requires c κs = search needs
 
 judge-column-requires : tie.Need-judge-column-requires
 judge-column-requires c κs = search needs
 
 returns-2 : tie.Need-returns-2
 returns-2 c =
-    let l = c .before in
-    let d = l .before in
+    let d = c .before in
     let k = d .before in
     let r = k .before in
     let i = r .before in
@@ -47,7 +43,7 @@ returns-2 c =
     let s = o .before .before in
     c .judge-column .ensures
     ∙ looked-at (now (s .args .keys)) (now (s .args .links)) (s .args .totals) (now (s .args .card)) (s .args .vessel) (s .args .row)
-    _ _ _ _ _ (o .only-defines .ensures) (i .if1 .left) (r .referred-by .ensures) (k .look-up .ensures) (d .defined-by .ensures) (l .look-up2 .ensures)
+    _ _ _ _ (o .only-defines .ensures) (i .if1 .left) (r .referred-by .ensures) (k .look-up .ensures) (d .told-defined .ensures)
 
 pub faults-by-spec : {M : Type 1} → statement M
 faults-by-spec =
@@ -58,7 +54,6 @@ faults-by-spec =
     returns
     referred-by-requires
     look-up-requires
-    defined-by-requires
-    look-up-requires-2
+    told-defined-requires
     judge-column-requires
     returns-2)

@@ -9,6 +9,7 @@ use native.Mathlib.Omega.{arith}
 use borrow.Author.Needs.{needs}
 use Rattle.base_lists.specs.Parts.{upTo}
 use Rattle.format_layout.specs.Layouts.{fieldsOf}
+use Rattle.card_screen.specs.Roles.{sure}
 use Rattle.header_check.specs.forms.Cards.{cardAt, cardsIn, layoutOf}
 use Rattle.header_check.specs.Refusing.{largest}
 use Rattle.header_check.proofs.forms.Steps.{card-part, card-ends, card-whole}
@@ -16,7 +17,6 @@ use Rattle.header_laws.proofs.Accepted.{few-cards}
 use Rattle.tie_rules.specs.Faults.{kinds}
 use Rattle.tie_check.specs.packed.Stored.{storedAll}
 use Rattle.tie_check.specs.packed.Listed.{stepEntries}
-use Rattle.tie_check.proofs.notes.Noting.{fits-byte}
 use Rattle.tie_check.proofs.gather.Growing.{all-linked}
 use Rattle.tie_check.proofs.listing.Order.{no-step, all-steps}
 use Rattle.tie_check.proofs.entries.Stored.{length-stored-all}
@@ -27,12 +27,12 @@ use Rattle.tie_check.proofs.listing.list_card.Statement.{statement}
 use Rattle.tie_check.proofs.listing.list_card.Tie as tie
 
 abbrev Inv-loop : tie.InvT-loop
-Inv-loop list₀ found header layouts store links totals place from card layout vessel left m₀ i₀ list m i =
+Inv-loop list₀ found header cards store links totals place from card note layout vessel left m₀ i₀ list m i =
     (i ≤ 81) × (m ≤ found + kinds * i) × (list ≡ storedAll list₀ found (flatMap (stepEntries header place left) (upTo i)))
     × (m ≡ found + length (flatMap (stepEntries header place left) (upTo i)))
 
 abbrev μ-loop : tie.MeasureT-loop
-μ-loop list₀ found header layouts store links totals place from card layout vessel left m₀ i₀ list m i = 81 - i
+μ-loop list₀ found header cards store links totals place from card note layout vessel left m₀ i₀ list m i = 81 - i
 
 -- the card is one of the header's, of which there are not too many
 below : (s : tie.Start Inv-loop μ-loop) → s .args .place < cardsIn (now (s .args .header))
@@ -61,26 +61,37 @@ part-card-start c = omega (arith, within (c .before .before))
 part-card-end : tie.Need-part-card-end Inv-loop μ-loop
 part-card-end c = omega (arith, within (c .before .before))
 
--- its layout is noted
-element-copy-out-layout : tie.Need-element-copy-out-layout Inv-loop μ-loop
-element-copy-out-layout c =
+-- its note is there, and tells its layout
+element-copy-out-note : tie.Need-element-copy-out-note Inv-loop μ-loop
+element-copy-out-note c =
     let s = c .before .before .before in
     omega (arith, below s, few s, s .pre .1 .0 .room)
 
-cast-layout : tie.Need-cast-layout Inv-loop μ-loop
-cast-layout c =
-    let s = c .before .before .before .before in
-    let k = fits-byte _ _ (s .pre .1 .0 .layouts-are (s .args .place) (below s)) in
-    record { fits = omega (arith, k) }
+layout-in-requires : tie.Need-layout-in-requires Inv-loop μ-loop
+layout-in-requires c κs = search needs
+
+layout-is : (y : tie.After-layout-in Inv-loop μ-loop)
+    → y .layout-in .result ≡ layoutOf (cardAt (now (y .before .before .before .before .before .args .header)) (y .before .before .before .before .before .args .place))
+layout-is y =
+    let s = y .before .before .before .before .before in
+    y .layout-in .ensures ∙ s .pre .1 .0 .layouts-are (s .args .place) (below s)
 
 vessel-of-requires : tie.Need-vessel-of-requires Inv-loop μ-loop
 vessel-of-requires c κs = search needs
 
+is-sure-requires : tie.Need-is-sure-requires Inv-loop μ-loop
+is-sure-requires c κs = search needs
+
 any-left-requires : tie.Need-any-left-requires Inv-loop μ-loop
 unfolding cardsIn
 any-left-requires c κs =
-    let s = c .before .before .before .before .before in
-    card-whole (now (s .args .header)) (s .args .place) (below s)
+    let y = c .before .before in
+    let s = y .before .before .before .before .before in
+    let h = now (s .args .header) in
+    let e = card-part h (s .args .place) in (
+      card-whole h (s .args .place) (below s),
+      c .is-sure .ensures ∙ s .pre .1 .0 .sures-are (s .args .place) (below s) ∙ ap₂ sure (sym (layout-is y)) (sym e),
+    )
 
 loop-holds : tie.Need-loop-holds Inv-loop μ-loop
 unfolding upTo flatMap storedAll
@@ -96,24 +107,24 @@ same-length c =
 
 -- that a misplaced number was looked for on the card itself
 left-is : (a : tie.After-any-left Inv-loop μ-loop)
-    → a .any-left .result ≡ anyLeft (cardAt (now (a .before .before .before .before .before .before .args .header)) (a .before .before .before .before .before .before .args .place))
-    (fieldsOf (layoutOf (cardAt (now (a .before .before .before .before .before .before .args .header)) (a .before .before .before .before .before .before .args .place))))
+    → a .any-left .result ≡ anyLeft (cardAt (now (a .before .before .before .before .before .before .before .before .args .header)) (a .before .before .before .before .before .before .before .before .args .place))
+    (fieldsOf (layoutOf (cardAt (now (a .before .before .before .before .before .before .before .before .args .header)) (a .before .before .before .before .before .before .before .before .args .place))))
 left-is a =
-    let s = a .before .before .before .before .before .before in
+    let s = a .before .before .before .before .before .before .before .before in
     let h = now (s .args .header) in
     a .any-left .ensures
-    ∙ ap₂ (λ (x : List ℕ) (y : ℕ). anyLeft x (fieldsOf y)) (card-part h (s .args .place)) (s .pre .1 .0 .layouts-are (s .args .place) (below s))
+    ∙ ap₂ (λ (x : List ℕ) (y : ℕ). anyLeft x (fieldsOf y)) (card-part h (s .args .place)) (layout-is (a .before .before .before))
 
 returns : tie.Need-returns Inv-loop μ-loop
 returns c =
     let t = c .before in
     let b = t .before .before .loop in
     let a = t .before .before .before in
-    let s = a .before .before .before .before .before .before in
+    let s = a .before .before .before .before .before .before .before .before in
     let h = now (s .args .header) in
     let p = s .args .place in
     let l = a .any-left .result in
-    let n = s .pre .1 .0 .layouts-are p (below s) in
+    let n = layout-is (a .before .before .before) in
     let z = step-none h (s .pre .0) p (below s) l _ (b .i) _ n (t .step-of .ensures) (c .if1 .taken) in
     let q = run-rest (stepEntries h p l) (b .i) 81 (b .inv .0) (λ i j m. no-step h p l i (walked-end l _ (b .i) z i j))
     in
@@ -124,7 +135,7 @@ returns c =
 
 faults-by-requires : tie.Need-faults-by-requires Inv-loop μ-loop
 faults-by-requires c κs =
-    let s = c .before .before .before .before .before .before .before .before .before .before in
+    let s = c .before .before .before .before .before .before .before .before .before .before .before .before in
     let g = s .pre .1 .1 .0 in
     rw (g .0, g .1) (all-linked (now (s .args .header)) (few s))
 
@@ -133,19 +144,19 @@ unfolding cardsIn
 step-left-requires c κs =
     let t = c .before .before in
     let a = t .before .before .before in
-    let s = a .before .before .before .before .before .before in
+    let s = a .before .before .before .before .before .before .before .before in
     (card-whole (now (s .args .header)) (s .args .place) (below s), a .any-left .ensures)
 
 add-put-all : tie.Need-add-put-all Inv-loop μ-loop
 add-put-all c =
     let t = c .before .before .before .before in
-    let s = t .before .before .before .before .before .before .before .before .before in
+    let s = t .before .before .before .before .before .before .before .before .before .before .before in
     omega (arith, below s, few s)
 
 cast-put-all : tie.Need-cast-put-all Inv-loop μ-loop
 cast-put-all c =
     let t = c .before .before .before .before in
-    let s = t .before .before .before .before .before .before .before .before .before in
+    let s = t .before .before .before .before .before .before .before .before .before .before .before in
     record { fits = omega (arith, below s, few s) }
 
 column-of-requires : tie.Need-column-of-requires Inv-loop μ-loop
@@ -156,10 +167,10 @@ cast-put-all-2 c =
     let t = c .before .before .before .before .before in
     let b = t .before .before .loop in
     let a = t .before .before .before in
-    let s = a .before .before .before .before .before .before in
+    let s = a .before .before .before .before .before .before .before .before in
     let h = now (s .args .header) in
     let p = s .args .place in
-    let n = s .pre .1 .0 .layouts-are p (below s) in
+    let n = layout-is (a .before .before .before) in
     let e = step-column h (s .pre .0) p (below s) (a .any-left .result) _ (b .i) _ n (t .step-of .ensures) in
     record { fits = omega (arith, c .column-of .ensures, e, walked-below (a .any-left .result) (layoutOf (cardAt h p)) (b .i)) }
 
@@ -170,7 +181,7 @@ put-all-requires : tie.Need-put-all-requires Inv-loop μ-loop
 put-all-requires c κs =
     let t = c .before .before .before .before .before in
     let b = t .before .before .loop in
-    let s = t .before .before .before .before .before .before .before .before .before in
+    let s = t .before .before .before .before .before .before .before .before .before .before .before in
     omega (arith, b .inv .0, b .inv .1, below s, s .pre .1 .1 .1 .1 .1, few s)
 
 add-i : tie.Need-add-i Inv-loop μ-loop
@@ -188,10 +199,10 @@ loop-again c =
     let t = f .before .before in
     let b = t .before .before .loop in
     let a = t .before .before .before in
-    let v = a .before in
-    let s = v .before .before .before .before .before in
+    let v = a .before .before in
+    let s = v .before .before .before .before .before .before in
     let h = now (s .args .header) in
-    let n = s .pre .1 .0 .layouts-are (s .args .place) (below s) in
+    let n = layout-is (a .before .before .before) in
     let g = s .pre .1 .1 in
     let l = a .any-left .result in
     let e = step-gives h (s .pre .0) (s .args .place) (below s) l _ (b .i) _ n (t .step-of .ensures) _ _ _ _ _ _ _ _
@@ -211,7 +222,7 @@ returns-2 : tie.Need-returns-2 Inv-loop μ-loop
 returns-2 c =
     let b = c .before .loop in
     let a = c .before .before in
-    let s = a .before .before .before .before .before .before in
+    let s = a .before .before .before .before .before .before .before .before in
     let h = now (s .args .header) in
     let g = stepEntries h (s .args .place) (a .any-left .result) in
     let q : b .i ≡ 81 = omega (arith, b .inv .0) in
@@ -231,9 +242,10 @@ list-card-spec =
     sub-card
     part-card-start
     part-card-end
-    element-copy-out-layout
-    cast-layout
+    element-copy-out-note
+    layout-in-requires
     vessel-of-requires
+    is-sure-requires
     any-left-requires
     loop-holds
     step-of-requires

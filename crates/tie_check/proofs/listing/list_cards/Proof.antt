@@ -18,13 +18,13 @@ use Rattle.tie_check.proofs.listing.list_cards.Statement.{statement}
 use Rattle.tie_check.proofs.listing.list_cards.Tie as tie
 
 abbrev Inv-loop : tie.InvT-loop
-Inv-loop list₀ header layouts store links totals count found₀ place₀ list found place =
+Inv-loop list₀ header cards store links totals count found₀ place₀ list found place =
     (place ≤ length header / 80) × (found ≤ 81 * kinds * place)
     × (list ≡ storedAll list₀ 0 (flatMap (cardEntries header) (upTo place)))
     × (found ≡ 0 + length (flatMap (cardEntries header) (upTo place)))
 
 abbrev μ-loop : tie.MeasureT-loop
-μ-loop list₀ header layouts store links totals count found₀ place₀ list found place = length header / 80 - place
+μ-loop list₀ header cards store links totals count found₀ place₀ list found place = length header / 80 - place
 
 loop-holds : tie.Need-loop-holds Inv-loop μ-loop
 unfolding upTo flatMap storedAll

@@ -1,4 +1,4 @@
--- `tie_check::notes::points_in` meets its contract.
+-- `tie_check::totals::points_in` meets its contract.
 use Prim.Native.Nat.{_-_, _/_, _≤_, _<_}
 use mathlib.Core.Path.{_≡_, ap, _∙_}
 use lib.ListN.{length}
@@ -7,16 +7,16 @@ use native.Mathlib.Omega.{arith}
 use borrow.Author.Needs.{needs}
 use Rattle.header_check.specs.forms.Cards.{cardsIn}
 use Rattle.header_check.specs.Refusing.{largest}
-use Rattle.tie_check.specs.packed.Noted.{pointsTo}
-use Rattle.tie_check.proofs.notes.Noting.{fits-byte, no-points, points-more, points-few}
-use Rattle.tie_check.proofs.notes.points_in.Statement.{statement}
-use Rattle.tie_check.proofs.notes.points_in.Tie as tie
+use Rattle.tie_check.specs.packed.Totals.{pointsTo}
+use Rattle.tie_check.proofs.totals.Points.{no-points, points-more, points-few}
+use Rattle.tie_check.proofs.totals.points_in.Statement.{statement}
+use Rattle.tie_check.proofs.totals.points_in.Tie as tie
 
 abbrev Inv-loop : tie.InvT-loop
-Inv-loop header layouts count found₀ place₀ found place = (place ≤ length header / 80) × (found ≡ pointsTo header place)
+Inv-loop header cards count found₀ place₀ found place = (place ≤ length header / 80) × (found ≡ pointsTo header place)
 
 abbrev μ-loop : tie.MeasureT-loop
-μ-loop header layouts count found₀ place₀ found place = length header / 80 - place
+μ-loop header cards count found₀ place₀ found place = length header / 80 - place
 
 loop-holds : tie.Need-loop-holds Inv-loop μ-loop
 loop-holds c = (omega arith, no-points (now (c .before .args .header)))
@@ -26,22 +26,18 @@ below : (c : tie.In-loop Inv-loop μ-loop) → c .before .loop .place < largest
 unfolding cardsIn
 below c = omega (arith, c .loop-test .taken, c .before .before .before .pre .0)
 
-element-copy-out-bit-of : tie.Need-element-copy-out-bit-of Inv-loop μ-loop
-element-copy-out-bit-of c = omega (arith, below c, c .before .before .before .pre .1 .room)
+element-copy-out-layout-in : tie.Need-element-copy-out-layout-in Inv-loop μ-loop
+element-copy-out-layout-in c = omega (arith, below c, c .before .before .before .pre .1 .room)
 
-cast-bit-of : tie.Need-cast-bit-of Inv-loop μ-loop
-unfolding cardsIn
-cast-bit-of c =
-    let l = c .before in
-    let k = fits-byte _ _ (l .before .before .before .pre .1 .layouts-are (l .before .loop .place) (l .loop-test .taken)) in
-    record { fits = omega (arith, k) }
+layout-in-requires : tie.Need-layout-in-requires Inv-loop μ-loop
+layout-in-requires c κs = search needs
 
 bit-of-requires : tie.Need-bit-of-requires Inv-loop μ-loop
 bit-of-requires c κs = search needs
 
 add-found : tie.Need-add-found Inv-loop μ-loop
 add-found c =
-    let l = c .before .before in
+    let l = c .before .before .before in
     let b = l .before .loop in
     let h = now (l .before .before .before .args .header) in
     omega (arith, c .bit-of .ensures .1, b .inv .1, points-few h (b .place), below l)
@@ -55,10 +51,10 @@ loop-less c = search needs
 loop-again : tie.Need-loop-again Inv-loop μ-loop
 unfolding cardsIn
 loop-again c =
-    let l = c .before .before in
+    let l = c .before .before .before in
     let b = l .before .loop in
     let s = l .before .before .before in
-    let k = s .pre .1 .layouts-are (b .place) (l .loop-test .taken) in
+    let k = c .before .layout-in .ensures ∙ s .pre .1 .layouts-are (b .place) (l .loop-test .taken) in
     (omega arith, points-more (now (s .args .header)) (b .place) _ _ _ (b .inv .1) k (c .bit-of .ensures .0))
 
 returns : tie.Need-returns Inv-loop μ-loop
@@ -76,8 +72,8 @@ points-in-spec =
     Inv-loop
     μ-loop
     loop-holds
-    element-copy-out-bit-of
-    cast-bit-of
+    element-copy-out-layout-in
+    layout-in-requires
     bit-of-requires
     add-found
     add-place

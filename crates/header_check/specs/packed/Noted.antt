@@ -1,0 +1,33 @@
+-- What is noted of each card of a header. No promise to a caller cites this.
+use Prim.Native.Nat.{ℕ, zero, suc, _+_, _*_, _%_, _<_}
+use mathlib.Core.Path.{_≡_}
+use mathlib.Core.Bool.{Bool}
+use mathlib.Core.List.{List}
+use lib.Dec.{leb}
+use lib.ListN.{length, getD, set}
+use Rattle.base_lists.specs.Count.{bit}
+use Rattle.card_screen.specs.Roles.{sure}
+use Rattle.header_check.specs.forms.Cards.{cardAt, layoutOf}
+use Rattle.header_check.specs.Refusing.{largest}
+
+-- a card's note: the number of its layout, and 128 more where the screen is sure of it
+unfoldable pub cardNote : List ℕ → ℕ
+cardNote s = layoutOf s + 128 * bit (sure (layoutOf s) s)
+
+-- what a note tells
+abbrev pub layoutIn : ℕ → ℕ
+layoutIn note = note % 128
+
+abbrev pub isSure : ℕ → Bool
+isSure note = leb 128 note
+
+-- an array with the notes of the first n cards put into it, as far as it has room; the rest of it is as it was
+unfoldable pub notedTo : List ℕ → List ℕ → ℕ → List ℕ
+notedTo h old zero = old
+notedTo h old (suc c) = set (notedTo h old c) c (cardNote (cardAt h c))
+
+-- an array tells the layouts of the first n cards, and of which the screen is sure
+pub record Noted (h : List ℕ) (n : ℕ) (cards : List ℕ) : Type 0 where
+  pub room : length cards ≡ largest
+  pub layouts-are : (c : ℕ) → c < n → layoutIn (getD cards c 0) ≡ layoutOf (cardAt h c)
+  pub sures-are : (c : ℕ) → c < n → isSure (getD cards c 0) ≡ sure (layoutOf (cardAt h c)) (cardAt h c)

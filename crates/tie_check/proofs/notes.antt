@@ -1,2 +1,0 @@
--- Laws of the layouts that are noted.
-pub mod Noting

@@ -1,0 +1,2 @@
+-- Laws of what is counted.
+pub mod Points
