@@ -1,13 +1,13 @@
 -- A card of which the screen is sure has no offence.
-use Prim.Native.Nat.{ℕ, zero, suc, _+_, _-_, _≤_, _<_}
+use Prim.Native.Nat.{ℕ, zero, suc, _+_, _-_, _≤_}
 use native.Mathlib.Omega.{arith}
 use native.Mathlib.Nat.{add-zero}
 use native.Mathlib.Numerals.{add-one}
 use mathlib.Core.Path.{_≡_, refl, sym, ap, _∙_, subst}
 use mathlib.Core.List.{List, [], _∷_}
-use mathlib.Core.Bool.{Bool, true, false, true≢false}
+use mathlib.Core.Bool.{true, true≢false}
 use lib.Dec.{T}
-use lib.ListN.{length, getD}
+use lib.ListN.{length}
 use Rattle.base_lists.specs.Count.{firstFrom}
 use Rattle.format_layout.specs.declared.Field.{Field}
 use Rattle.format_layout.specs.declared.Form.{Form}
@@ -17,7 +17,7 @@ use Rattle.card_screen.specs.Roles.{sure}
 use Rattle.card_screen.proofs.Lines.{past-plain}
 use Rattle.card_screen.proofs.Cards.{Gap, Clean, unlabelled, clean}
 use Rattle.card_check.specs.declared.Verdict.{Verdict}
-use Rattle.card_check.specs.declared.Verdict.the-variants.{Fine, Offence}
+use Rattle.card_check.specs.declared.Verdict.the-variants.{Fine}
 use Rattle.card_check.specs.Judging.{filledAt, columnOffence, offenceAt, nextVerdict, verdictFrom}
 use Rattle.card_check.proofs.Leftmost.{thenOn, next-field}
 use Rattle.card_check.proofs.Ways.{blank-here, no-offence, next-fine, label-here, label-right}

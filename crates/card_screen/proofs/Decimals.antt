@@ -3,16 +3,15 @@ use Prim.Native.Nat.{ℕ, zero, suc, _+_, _-_, _≤_}
 use native.Mathlib.Omega.{arith}
 use mathlib.Core.Path.{_≡_, refl, sym, ap, _∙_, subst}
 use mathlib.Core.List.{List, [], _∷_}
-use mathlib.Core.Bool.{Bool, true, false, cond, not, _&&_, _||_, true≢false}
+use mathlib.Core.Bool.{Bool, true, false, cond, _&&_, _||_, true≢false}
 use mathlib.Core.Logic.{_⊎_, inl, inr, ⊎-elim}
 use lib.IntN.{ℤ, pos, negsuc}
 use lib.Seq.{take-all}
-use lib.Dec.{T, eqb, leb, ltb}
+use lib.Dec.{T, eqb, ltb}
 use lib.ListN.{length, take, drop, replicate}
 use borrow.Author.Tests.{eq-eqb, ne-eqb, eqb-true, le-ltb}
 use Rattle.base_digits.specs.digits.Figures.{isDigit, blanks, unpadded, leading, behind}
-use Rattle.value_number.specs.declared.number.Figures.{Figures}
-use Rattle.value_number.specs.number.Reading.{allDigits, countedOf, unitsOf, pointOf, figuresOf, heldOf, signOf, numberOf}
+use Rattle.value_number.specs.number.Reading.{countedOf, pointOf, figuresOf, heldOf, signOf, numberOf}
 use Rattle.base_value.specs.Reading.{offenceOf}
 use Rattle.base_value.specs.declared.Value.the-variants.{Absent, Whole, Decimal, Angle, Date, Text}
 use Rattle.base_value.specs.declared.Reading.{Reading}
@@ -23,10 +22,9 @@ use Rattle.value_text.specs.text.Texts.{textEnd, textOf}
 use Rattle.value_field.specs.spelling.Reading.{numberIn, pushedLeft}
 use Rattle.card_screen.proofs.Whole.{faultOf}
 use Rattle.value_number.specs.packed.Shapes.{isUnits}
-use Rattle.value_number.proofs.shapes.Small.{Small, figures-small}
+use Rattle.value_number.proofs.shapes.Small.{figures-small}
 use Rattle.value_number.proofs.shapes.Telling.{shape-held}
-use Rattle.card_screen.specs.Machine.{classOf, figure, signed, pointed, counted, decimalBy, ends, firstBy, laterBy, stepBy, step as stepped, runs}
-use Rattle.card_screen.proofs.Rows.{is-true}
+use Rattle.card_screen.specs.Machine.{classOf, signed, pointed, counted, decimalBy, ends, firstBy, laterBy, stepBy, step as stepped, runs}
 use Rattle.card_screen.proofs.Steps.{figure-is}
 
 -- one step by the classes of a byte

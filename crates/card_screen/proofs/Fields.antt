@@ -1,19 +1,17 @@
 -- A field of which the machine is sure has no offence and no misplaced number.
-use Prim.Native.Nat.{ℕ, zero, suc, _+_, _-_, _≤_, _<_}
+use Prim.Native.Nat.{ℕ, suc, _-_, _≤_}
 use native.Mathlib.Omega.{arith}
-use native.Mathlib.Nat.{le-of-suc-le-suc, not-suc-le-zero}
-use mathlib.Core.Path.{_≡_, refl, sym, ap, ap₂, _∙_, subst}
+use mathlib.Core.Path.{_≡_, refl, sym, ap, _∙_, subst}
 use mathlib.Core.List.{List, [], _∷_}
 use mathlib.Core.Bool.{Bool, true, false, cond, _&&_, _||_, not, true≢false}
-use lib.Dec.{T, eqb, leb, leb→le}
-use lib.ListN.{length, getD, take, drop, replicate, length-replicate, length-drop}
+use lib.Dec.{T, eqb, leb→le}
+use lib.ListN.{length, take, drop, replicate, length-drop}
 use lib.Seq.{length-take-le}
 use borrow.Author.Tests.{eqb-true, not-true}
 use Rattle.base_value.specs.declared.Value.the-variants.{Absent, Whole, Decimal, Angle, Date, Text}
 use Rattle.base_value.specs.declared.Reading.{Reading}
 use Rattle.base_value.specs.declared.Reading.the-variants.{Held, Malformed, OutOfRange}
-use Rattle.base_value.specs.Reading.{refusalOf}
-use Rattle.value_field.specs.spelling.Reading.{numberIn, pushedLeft, wholeReading, textReading, readingOf, misplacedIn}
+use Rattle.value_field.specs.spelling.Reading.{numberIn, pushedLeft, wholeReading, readingOf, misplacedIn}
 use Rattle.format_layout.specs.declared.Kind.{Kind}
 use Rattle.format_layout.specs.declared.Kind.the-variants as kind
 use Rattle.format_layout.specs.declared.Range.{Range}

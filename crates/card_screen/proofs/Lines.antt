@@ -1,11 +1,8 @@
 -- The lines of the tables: which one a `match` picks, and what it holds.
-use Prim.Native.Nat.{ℕ, zero, suc, _+_, _*_, _/_, _≤_, _<_}
-use mathlib.Core.Path.{_≡_, refl, sym, ap, _∙_}
-use mathlib.Core.Bool.{Bool, false, cond}
+use Prim.Native.Nat.{ℕ, _*_, _/_, _≤_, _<_}
+use mathlib.Core.Path.{_≡_}
+use mathlib.Core.Bool.{false}
 use native.Mathlib.Omega.{arith}
-use lib.ListN.{length}
-use borrow.Author.Tests.{eq-eqb}
-use Rattle.format_layout.specs.Layouts.{fieldsOf, labelOf}
 use Rattle.format_layout.specs.packed.Rows.{layoutCount}
 use Rattle.format_layout.proofs.Lines.{Others, above}
 use Rattle.format_layout.proofs.Places.{no-fields}

@@ -1,13 +1,12 @@
 -- What stands in a row of the table is the machine's step: one computed test of all of it.
-use Prim.Native.Nat.{ℕ, zero, suc, _+_, _-_, _*_, _/_, _%_, _^_, _≤_, _<_}
-use mathlib.Core.Path.{_≡_, refl, sym, ap, _∙_, subst}
+use Prim.Native.Nat.{ℕ, zero, suc, _+_, _-_, _*_, _/_, _%_, _^_, _<_}
+use mathlib.Core.Path.{_≡_, refl, ap, _∙_, subst}
 use mathlib.Core.Bool.{Bool, true, false, cond, _&&_, _||_}
 use native.Mathlib.Omega.{arith}
 use native.Mathlib.Nat.{not-suc-le-zero}
 use native.Mathlib.Decide.{decLt}
 use lib.Dec.{T, eqb, leb}
 use borrow.Author.Tests.{eqb-true, leb-true}
-use Rattle.base_digits.specs.digits.Figures.{isDigit}
 use Rattle.card_screen.specs.Machine.{classOf, stepBy, step, rowAt, decimalBy, firstBy, laterBy}
 
 abbrev pub allTo : (ℕ → Bool) → ℕ → Bool

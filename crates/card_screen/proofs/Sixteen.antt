@@ -12,7 +12,7 @@ use borrow.Author.Tests.{eqb-true}
 use Rattle.format_layout.specs.Table.{layouts}
 use Rattle.format_layout.specs.Layouts.{layoutAt, fieldsOf, labelOf}
 use Rattle.format_layout.specs.packed.Rows.{layoutCount}
-use Rattle.card_screen.specs.Machine.{ends, step, runTo, runs}
+use Rattle.card_screen.specs.Machine.{ends, runTo, runs}
 use Rattle.card_screen.specs.Roles.{rolesFor, rolesFrom, plain, rolesOf, wordAt, sure}
 use Rattle.card_screen.proofs.Rows.{allTo, all-at, both, is-true}
 use Rattle.card_screen.proofs.Steps.{runs-append, unsure-stays}

@@ -1,16 +1,13 @@
 -- A text of which the machine is sure: its first column is filled, or it is blank and need not be there.
-use Prim.Native.Nat.{ℕ, zero, suc, _+_, _-_, _≤_, _<_}
-use native.Mathlib.Omega.{arith}
-use mathlib.Core.Path.{_≡_, refl, sym, ap, _∙_, subst}
+use Prim.Native.Nat.{ℕ}
+use mathlib.Core.Path.{_≡_, refl, sym, _∙_}
 use mathlib.Core.List.{List, [], _∷_}
-use mathlib.Core.Bool.{Bool, true, false, cond, _&&_, _||_, not, true≢false}
+use mathlib.Core.Bool.{Bool, true, false, cond, _&&_, true≢false}
 use lib.Dec.{T, eqb, eqb·suc-zero}
 use lib.ListN.{length, replicate}
 use borrow.Author.Tests.{eq-eqb, ne-eqb}
 use Rattle.value_text.specs.text.Texts.{textEnd, leadingBlank}
 use Rattle.value_field.specs.spelling.Reading.{textReading}
-use Rattle.base_value.specs.declared.Value.the-variants.{Absent, Text}
-use Rattle.base_value.specs.declared.Reading.the-variants.{Held}
 use Rattle.format_layout.specs.declared.Range.{Range}
 use Rattle.card_screen.specs.Machine.{classOf, ends, firstBy, laterBy, stepBy, step, runs}
 use Rattle.card_screen.proofs.Steps.{unsure-never, blank-class, afresh}

@@ -7,7 +7,7 @@ use mathlib.Core.List.{List}
 use mathlib.Core.Bool.{Bool, true, false, not, _&&_, _||_, true≢false}
 use lib.Dec.{eqb, leb, ltb}
 use borrow.Author.Tests.{lt-ltb, le-ltb, le-leb, lt-leb}
-use Rattle.base_lists.specs.Count.{bit, count, first}
+use Rattle.base_lists.specs.Count.{bit, count}
 use Rattle.base_lists.proofs.Finding.{first-le, first-below, first-passes}
 use Rattle.header_check.specs.forms.Cards.{cardAt, cardsIn, layoutOf}
 use Rattle.format_layout.specs.Names.{H00X8, H00X9}

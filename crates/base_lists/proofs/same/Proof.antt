@@ -1,14 +1,13 @@
+-- `base_lists::same` meets its contract.
 use Rattle.base_lists.proofs.Comparing.{alike-lengths, alike-goes, alike-stops, alike-ends}
 use Rattle.base_lists.specs.Parts.{alike}
 use lib.ListN.{length, drop}
-use Prim.Native.Nat.{_≤_, _+_, _-_, _*_, _^_, _/_}
-use mathlib.Core.Path.{_≡_, refl, ap, sym, _∙_}
+use Prim.Native.Nat.{_≤_, _-_}
+use mathlib.Core.Path.{_≡_, refl, sym, _∙_}
 use native.Mathlib.Omega.{arith}
 use borrow.Author.Needs.{needs}
 use Rattle.base_lists.proofs.same.Statement.{statement}
 use Rattle.base_lists.proofs.same.Tie as tie
-use Rattle.base_lists.proofs.same.Reads as reads
-use Rattle.base_lists.proofs.same.Lts as lts
 
 abbrev Inv-loop : tie.InvT-loop
 Inv-loop s t i₀ i = (i ≤ length s) × (alike s t ≡ alike (drop i s) (drop i t))

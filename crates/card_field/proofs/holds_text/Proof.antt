@@ -1,3 +1,4 @@
+-- `card_field::holds_text` meets its contract.
 use Rattle.card_field.proofs.Steps.{text-not, text-other}
 use Rattle.card_field.specs.Reading.{holdsText}
 use Rattle.card_field.specs.declared.judging.Judged.the-variants.{Is}

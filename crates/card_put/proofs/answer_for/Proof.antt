@@ -1,3 +1,4 @@
+-- `card_put::answer_for` meets its contract.
 use Rattle.card_put.specs.Putting.{answerOf, cameOf}
 use mathlib.Core.List.{[]}
 use mathlib.Core.Path.{sym, ap, _∙_}

@@ -1,3 +1,4 @@
+-- `card_put::is_absent` meets its contract.
 use Rattle.card_put.proofs.Steps.{present}
 use mathlib.Core.Path.{sym}
 use borrow.Author.Needs.{needs}

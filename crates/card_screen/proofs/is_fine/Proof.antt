@@ -1,7 +1,7 @@
 -- `card_screen::is_fine` meets its contract.
 use Prim.Native.Nat.{_≤_, _<_, _+_, _*_, _-_, _%_}
 use denote.Ref.{now}
-use mathlib.Core.Path.{_≡_, refl, sym, ap, _∙_}
+use mathlib.Core.Path.{_≡_, refl, ap, _∙_}
 use mathlib.Core.Bool.{true}
 use native.Mathlib.Omega.{arith}
 use lib.ListN.{length, drop}

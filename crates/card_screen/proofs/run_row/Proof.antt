@@ -1,9 +1,7 @@
 -- `card_screen::run_row` meets its contract.
-use denote.Ref.{now}
 use Prim.Native.Nat.{_≤_, _<_, _-_, _/_, _%_, _^_}
-use mathlib.Core.Path.{_≡_, refl}
+use mathlib.Core.Path.{_≡_}
 use native.Mathlib.Omega.{arith}
-use borrow.Author.Needs.{needs}
 use Rattle.card_screen.specs.Machine.{runTo}
 use Rattle.card_screen.proofs.Runs.{run-none, roles-none, run-more, roles-more, run-all}
 use Rattle.card_screen.proofs.run_row.Statement.{statement}

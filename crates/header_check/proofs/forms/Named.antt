@@ -8,22 +8,18 @@ use mathlib.Core.Logic.{_↔_}
 use mathlib.Core.Bool.{Bool, true, false, cond}
 use mathlib.Core.List.{List, [], _∷_, map}
 use lib.ListN.{length, getD, take}
-use borrow.Author.Tests.{lt-ltb, le-ltb, eqb-true}
-use lib.Dec.{eqb}
-use lib.Seq.{getD-take}
+use borrow.Author.Tests.{lt-ltb, le-ltb}
 use Rattle.format_code.specs.declared.Code.{Code}
 use Rattle.format_code.specs.declared.Code.the-variants.{Read, Passed, Unknown}
 use Rattle.format_layout.specs.Shape.{bytes}
 use Rattle.format_layout.specs.Table.{layouts}
-use Rattle.format_code.specs.Codes.{byteFits, fitsAt, fits, codes, placeIn, codeAt, codeOf}
+use Rattle.format_code.specs.Codes.{fits, codes, placeIn, codeAt, codeOf}
 use Rattle.format_layout.specs.Layouts.{layoutAt}
 use Rattle.format_layout.specs.packed.Rows.{layoutCount}
 use Rattle.format_code.proofs.Places.{codes-count, code-is}
-use Rattle.format_code.proofs.Apart.{read-as, in-each}
+use Rattle.format_code.proofs.Apart.{read-as}
 use Rattle.header_check.specs.forms.Cards.{numberOf, layoutOf}
 use Rattle.format_layout.specs.Names.{H00X8, H00X9, H0100, H0101, H5000}
-use Rattle.header_check.specs.packed.Notes.{noteCard}
-use Rattle.header_check.proofs.forms.Steps.{seen-other}
 
 -- H0000 to H0007, H00@8 and H00@9, whose digit may be 0, H0100 and H0101, and H5000
 pub named : map (λ k. layoutAt k .code) (0 ∷ 1 ∷ 2 ∷ 3 ∷ 4 ∷ 5 ∷ 6 ∷ 7 ∷ H00X8 ∷ H00X9 ∷ H0100 ∷ H0101 ∷ H5000 ∷ [])

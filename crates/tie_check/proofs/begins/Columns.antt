@@ -1,25 +1,24 @@
 -- The columns where a fault can stand, by the fields of a layout; no other column has one.
-use Prim.Native.Nat.{ℕ, zero, suc, _+_, _*_, _-_, _≤_, _<_}
+use Prim.Native.Nat.{ℕ, zero, suc, _+_, _-_, _≤_, _<_}
 use native.Mathlib.Numerals.{add-one}
 use native.Mathlib.Decide.{ℕ-discrete, decLt}
 use native.Mathlib.Omega.{arith}
 use mathlib.Core.Path.{_≡_, refl, sym, ap, ap₂, subst, _∙_}
 use mathlib.Core.Logic.{⊎-elim}
-use mathlib.Core.Bool.{Bool, true, false, true≢false, false≢true, cond, _&&_, _||_}
+use mathlib.Core.Bool.{Bool, true, false, true≢false, false≢true, _&&_, _||_}
 use mathlib.Core.List.{List, [], _∷_, map, List·Memᴰ, List·Memᴰ·head, List·Memᴰ·tail}
 use lib.Dec.{T, eqb}
 use lib.ListN.{length, getD, drop, length-map, drop-of-length-le, List·getD-map, List·getD-eq-default}
 use lib.Seq.{drop-cons}
-use borrow.Author.Tests.{eq-eqb, eqb-true}
+use borrow.Author.Tests.{eqb-true}
 use Rattle.base_lists.specs.Parts.{alike, kept, upTo}
 use Rattle.base_lists.proofs.Comparing.{alike-equal}
 use Rattle.base_lists.proofs.Keeping.{out-of-kept, out-of-upTo}
 use Rattle.format_layout.specs.declared.Field.{Field}
 use Rattle.format_layout.specs.declared.Form.the-variants.{Angles}
-use Rattle.format_layout.specs.declared.Found.the-variants.{Is}
 use Rattle.format_layout.specs.Shape.{Layout}
 use Rattle.format_layout.specs.Table.{layouts}
-use Rattle.format_layout.specs.Layouts.{layoutAt, fieldsOf, fieldOf, labelOf, noField}
+use Rattle.format_layout.specs.Layouts.{layoutAt, fieldsOf, labelOf, noField}
 use Rattle.format_layout.specs.packed.Rows.{layoutCount, unpack, rowOf}
 use Rattle.format_layout.proofs.Every.{every}
 use Rattle.format_layout.proofs.Places.{no-fields}

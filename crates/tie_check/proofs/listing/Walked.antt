@@ -3,9 +3,9 @@ use Prim.Native.Nat.{ℕ, zero, suc, _+_, _≤_, _<_}
 use native.Mathlib.Numerals.{add-one}
 use native.Mathlib.Decide.{decLt}
 use native.Mathlib.Omega.{arith}
-use mathlib.Core.Path.{_≡_, refl, sym, ap, _∙_}
+use mathlib.Core.Path.{_≡_, sym, ap, _∙_}
 use mathlib.Core.Bool.{Bool}
-use mathlib.Core.List.{List, [], _∷_, _++_, flatMap, append-nil}
+use mathlib.Core.List.{List, [], _++_, flatMap, append-nil}
 use lib.ListN.{length, getD, length-append}
 use Rattle.base_lists.specs.Parts.{upTo}
 use Rattle.base_lists.proofs.Entries.{entries-more}

@@ -1,3 +1,4 @@
+-- `volume_edit::lay_two` meets its contract.
 use lib.ListN.{length}
 use Prim.Native.Nat.{_+_}
 use denote.Ref.{now}

@@ -1,3 +1,4 @@
+-- `volume_edit::make_room` meets its contract.
 use denote.Ref.{now}
 use Rattle.volume_form.specs.Moved.{laidAt}
 use mathlib.Core.Path.{ap, _∙_}

@@ -1,3 +1,4 @@
+-- `volume_form::most_of` meets its contract.
 use mathlib.Core.Path.{ap, sym}
 use native.Mathlib.Omega.{arith}
 use Rattle.volume_form.specs.Rows.{rowOf}

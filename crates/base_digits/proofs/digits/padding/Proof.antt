@@ -1,3 +1,4 @@
+-- `base_digits::digits::padding` meets its contract.
 use Rattle.base_digits.proofs.digits.Walk.{blanks-stop, blanks-go, blanks-end}
 use denote.Ref.{now}
 use mathlib.Core.Path.{sym, _∙_}

@@ -1,3 +1,4 @@
+-- `base_digits::digits::read_run` meets its contract.
 use Prim.Native.Nat.{_+_}
 use denote.Ref.{now}
 use mathlib.Core.Path.{sym, ap}

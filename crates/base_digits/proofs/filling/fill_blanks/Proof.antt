@@ -1,3 +1,4 @@
+-- `base_digits::filling::fill_blanks` meets its contract.
 use mathlib.Core.List.{append-nil}
 use lib.Seq.{drop-length}
 use denote.Ref.{now}

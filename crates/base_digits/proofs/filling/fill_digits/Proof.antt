@@ -1,3 +1,4 @@
+-- `base_digits::filling::fill_digits` meets its contract.
 use Rattle.base_digits.proofs.digits.Spell.{rest-done, columns-done}
 use mathlib.Core.Path.{sym}
 use Rattle.base_digits.proofs.digits.Spell.{digit-goes, rest-goes}

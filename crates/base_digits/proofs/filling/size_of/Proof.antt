@@ -1,3 +1,4 @@
+-- `base_digits::filling::size_of` meets its contract.
 use Rattle.base_digits.proofs.digits.Spell.{size-room, size-goes, size-below, size-ends}
 use mathlib.Core.Path.{sym, _∙_}
 use native.Mathlib.Nat.{zero-add}

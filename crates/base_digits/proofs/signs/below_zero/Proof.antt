@@ -1,3 +1,4 @@
+-- `base_digits::signs::below_zero` meets its contract.
 use Rattle.base_digits.proofs.signs.Signs.{below-is}
 use Rattle.base_digits.proofs.signs.below_zero.Statement.{statement}
 use Rattle.base_digits.proofs.signs.below_zero.Tie as tie

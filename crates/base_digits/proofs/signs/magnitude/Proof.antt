@@ -1,3 +1,4 @@
+-- `base_digits::signs::magnitude` meets its contract.
 use Rattle.base_digits.proofs.signs.Signs.{below-is, nearer-fits, turned-fits, less-cast, less-one, less-one-fits, plus-cast}
 use mathlib.Core.Path.{sym, _∙_}
 use borrow.Author.Needs.{needs}

@@ -1,3 +1,4 @@
+-- `base_digits::signs::signed` meets its contract.
 use Rattle.base_digits.proofs.signs.Signs.{minus-held, signed-minus, signed-plus}
 use Rattle.base_digits.specs.signs.Signs.{signedOf}
 use mathlib.Core.Path.{ap, _∙_}

@@ -1,3 +1,4 @@
+-- `card_field::judging::spelling_of` meets its contract.
 use mathlib.Core.Bool.{cond}
 use Rattle.value_field.specs.declared.spelling.Spelling.the-variants as spelled
 use Rattle.card_field.specs.judging.Fields.{spellingOf}

@@ -1,3 +1,4 @@
+-- `card_field::needing::is_blank` meets its contract.
 use Rattle.card_field.specs.needing.Needs.{isBlank}
 use lib.Dec.{eqb}
 use mathlib.Core.Path.{ap}

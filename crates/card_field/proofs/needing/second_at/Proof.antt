@@ -1,3 +1,4 @@
+-- `card_field::needing::second_at` meets its contract.
 use Rattle.card_field.proofs.needing.Steps.{second-first, second-columns}
 use borrow.Author.Tests.{not-true, not-false}
 use mathlib.Core.Bool.{not}

@@ -1,3 +1,4 @@
+-- `card_field::needing::second_by` meets its contract.
 use Rattle.card_field.proofs.needing.Steps.{second-none, second-is}
 use Rattle.format_layout.proofs.Numbers.{found-lies}
 use mathlib.Core.Path.{sym, _∙_}

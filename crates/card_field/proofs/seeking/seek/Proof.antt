@@ -1,3 +1,4 @@
+-- `card_field::seeking::seek` meets its contract.
 use Rattle.card_field.proofs.seeking.Steps.{sought-none, sought-odd, sought-bad, sought-coded}
 use Rattle.card_field.specs.seeking.Card.{coded, wayFor}
 use lib.Seq.{length-take-le}

@@ -3,7 +3,6 @@ use mathlib.Core.Path.{sym, _∙_}
 use denote.Ref.{now}
 use native.Mathlib.Omega.{arith}
 use Rattle.header_check.proofs.forms.Layouts.{fits-note, note-sure, note-unsure}
-use borrow.Author.Needs.{needs}
 use Rattle.header_check.proofs.forms.card_note.Statement.{statement}
 use Rattle.header_check.proofs.forms.card_note.Tie as tie
 

@@ -1,6 +1,5 @@
 -- `tie_check::begins::any_left` meets its contract.
 use mathlib.Core.Path.{sym, _∙_}
-use borrow.Author.Needs.{needs}
 use Rattle.tie_check.proofs.begins.Sure.{sure-none}
 use Rattle.tie_check.proofs.begins.any_left.Statement.{statement}
 use Rattle.tie_check.proofs.begins.any_left.Tie as tie

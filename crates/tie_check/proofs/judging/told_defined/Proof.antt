@@ -1,5 +1,4 @@
 -- `tie_check::judging::told_defined` meets its contract.
-use mathlib.Core.Path.{_∙_}
 use Rattle.tie_check.specs.packed.Asked.{toldDefined}
 use borrow.Author.Needs.{needs}
 use Rattle.tie_check.proofs.judging.told_defined.Statement.{statement}

@@ -1,3 +1,4 @@
+-- `value_field::spelling::is_text` meets its contract.
 use Rattle.value_field.proofs.spelling.Ways.{not-held, not-text}
 use Rattle.value_field.specs.spelling.Reading.{isText}
 use Rattle.base_value.specs.declared.Reading.the-variants.{Held}

@@ -1,3 +1,4 @@
+-- `value_field::spelling::read` meets its contract.
 use Rattle.value_field.specs.spelling.Reading.{wholeReading, readingOf}
 use denote.Ref.{now}
 use mathlib.Core.Path.{sym, ap, _∙_}

@@ -1,3 +1,4 @@
+-- `value_field::spelling::text_in` meets its contract.
 use Rattle.value_field.proofs.spelling.Ways.{text-absent, text-held, text-odd}
 use borrow.Author.Needs.{needs}
 use Rattle.value_field.proofs.spelling.text_in.Statement.{statement}

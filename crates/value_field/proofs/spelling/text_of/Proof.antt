@@ -1,3 +1,4 @@
+-- `value_field::spelling::text_of` meets its contract.
 use Rattle.value_field.specs.spelling.Reading.{isText, textRead}
 use Rattle.value_text.specs.text.Texts.{textOf}
 use denote.Ref.{now}

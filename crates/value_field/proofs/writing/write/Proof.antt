@@ -1,3 +1,4 @@
+-- `value_field::writing::write` meets its contract.
 use Rattle.value_field.proofs.writing.Ways.{same-entry}
 use Rattle.value_field.specs.writing.Writing.{entryOf}
 use denote.Ref.{now}

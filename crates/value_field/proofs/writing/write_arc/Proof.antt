@@ -1,3 +1,4 @@
+-- `value_field::writing::write_arc` meets its contract.
 use Rattle.value_field.proofs.writing.Ways.{same-entry, no-arc}
 use Rattle.value_field.specs.writing.Writing.{arcIn}
 use Rattle.base_value.specs.declared.Value.the-variants.{Angle}

@@ -1,3 +1,4 @@
+-- `value_field::writing::write_day` meets its contract.
 use Rattle.value_field.proofs.writing.Ways.{same-entry, no-day}
 use Rattle.value_field.specs.writing.Writing.{dayIn}
 use Rattle.base_digits.proofs.digits.Answers.{turned-away}

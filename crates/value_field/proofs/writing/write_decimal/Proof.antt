@@ -1,3 +1,4 @@
+-- `value_field::writing::write_decimal` meets its contract.
 use Rattle.value_field.proofs.writing.Ways.{same-entry, no-decimal}
 use Rattle.value_field.specs.writing.Writing.{unitsIn}
 use Rattle.base_digits.proofs.digits.Answers.{turned-away}

@@ -1,3 +1,4 @@
+-- `value_field::writing::write_units` meets its contract.
 use Rattle.value_field.proofs.writing.Ways.{room-done, room-none}
 use Rattle.value_number.specs.number_entry.Spelling.{decimalIn}
 use lib.ListN.{length}

@@ -1,3 +1,4 @@
+-- `value_field::writing::write_whole` meets its contract.
 use Rattle.value_field.proofs.writing.Ways.{same-entry, no-whole}
 use Rattle.value_field.specs.writing.Writing.{wholeIn}
 use Rattle.base_value.specs.declared.Value.the-variants.{Whole}

@@ -1,3 +1,4 @@
+-- `value_number::number::counted` meets its contract.
 use borrow.Author.Tests.{eq-eqb, ne-eqb}
 use Rattle.value_number.proofs.number.counted.Statement.{statement}
 use Rattle.value_number.proofs.number.counted.Tie as tie

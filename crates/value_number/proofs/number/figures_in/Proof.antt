@@ -1,3 +1,4 @@
+-- `value_number::number::figures_in` meets its contract.
 use Rattle.value_number.proofs.number.Parsing.{figures-whole, figures-no-point-in-whole, figures-other-byte, figures-odd-places, figures-places}
 use Rattle.base_digits.proofs.digits.Parts.{rest-part}
 use borrow.Author.Tests.{not-true, not-false}

@@ -1,3 +1,4 @@
+-- `value_number::number::held` meets its contract.
 use Rattle.value_number.proofs.number.Parsing.{held-not, held-units, held-large}
 use mir.ValLaws.{toZ-ofZ}
 use mir.Syntax.{w64}

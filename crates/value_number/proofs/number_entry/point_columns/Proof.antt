@@ -1,3 +1,4 @@
+-- `value_number::number_entry::point_columns` meets its contract.
 use Rattle.value_number.proofs.number_entry.Writing.{point-some}
 use mathlib.Core.Path.{sym}
 use native.Mathlib.Omega.{arith}

@@ -1,3 +1,4 @@
+-- `value_number::number_entry::spell` meets its contract.
 use Rattle.value_number.proofs.number_entry.Writing.{adjusted-none, adjusted-some, adjusted-written}
 use Rattle.base_digits.proofs.digits.Answers.{fitted, declined}
 use lib.Seq.{length-take-le}

@@ -1,3 +1,4 @@
+-- `value_number::number_entry::write_decimal` meets its contract.
 use Rattle.value_number.proofs.number_entry.Writing.{decimal-large, decimal-is, units-none}
 use Rattle.base_digits.specs.signs.Signs.{isMinus}
 use Rattle.base_digits.proofs.digits.Answers.{declined}

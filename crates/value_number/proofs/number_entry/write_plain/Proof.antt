@@ -1,3 +1,4 @@
+-- `value_number::number_entry::write_plain` meets its contract.
 use Rattle.value_number.proofs.number_entry.Writing.{plain-whole, plain-short, plain-pointed}
 use Rattle.base_digits.proofs.digits.Answers.{fitted, declined}
 use borrow.Author.Needs.{needs}

@@ -1,3 +1,4 @@
+-- `value_number::number_entry::write_pointed` meets its contract.
 use Rattle.value_number.proofs.number_entry.Writing.{pointed-length, front-length, pointed-written, pointed-same}
 use denote.Ref.{now}
 use mathlib.Core.Path.{sym}

@@ -1,3 +1,4 @@
+-- `value_number::number_entry::write_signed` meets its contract.
 use Rattle.value_number.proofs.number_entry.Writing.{signed-written, unsigned-written}
 use Rattle.value_number.specs.number_entry.Spelling.{signColumns}
 use Rattle.base_digits.proofs.digits.Parts.{put-length}

@@ -1,3 +1,4 @@
+-- `value_number::number_entry::write_units` meets its contract.
 use Rattle.value_number.proofs.number_entry.Writing.{units-full, units-least}
 use Rattle.base_digits.specs.digits.Digits.{size}
 use denote.Ref.{now}

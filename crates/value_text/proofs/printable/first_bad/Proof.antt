@@ -1,3 +1,4 @@
+-- `value_text::printable::first_bad` meets its contract.
 use Rattle.value_text.proofs.printable.Rows.{all-good, bad-below, bad-above, good-byte}
 use Rattle.value_text.specs.printable.Bytes.{badAt, firstBad}
 use Rattle.base_lists.proofs.Finding.{begins, stops, goes, over}

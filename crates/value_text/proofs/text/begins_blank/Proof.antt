@@ -1,3 +1,4 @@
+-- `value_text::text::begins_blank` meets its contract.
 use Rattle.value_text.proofs.text.Ends.{blank-none, blank-some}
 use mathlib.Core.Path.{sym}
 use borrow.Author.Needs.{needs}

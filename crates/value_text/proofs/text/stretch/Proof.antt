@@ -1,3 +1,4 @@
+-- `value_text::text::stretch` meets its contract.
 use Rattle.value_text.specs.text.Texts.{textOf}
 use denote.Ref.{now}
 use lib.Seq.{length-take-le}

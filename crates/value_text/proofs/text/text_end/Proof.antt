@@ -1,3 +1,4 @@
+-- `value_text::text::text_end` meets its contract.
 use Rattle.value_text.proofs.text.Ends.{end-stops, end-goes, end-over}
 use Rattle.value_text.specs.text.Texts.{textEnd}
 use denote.Ref.{now}

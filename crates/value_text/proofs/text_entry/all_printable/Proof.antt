@@ -1,3 +1,4 @@
+-- `value_text::text_entry::all_printable` meets its contract.
 use Rattle.value_text.proofs.text.Ends.{below-stops, above-stops, printable-goes, printable-over}
 use Rattle.value_text.specs.text.Texts.{printable}
 use denote.Ref.{now}

@@ -1,3 +1,4 @@
+-- `value_text::text_entry::copy` meets its contract.
 use Rattle.value_text.proofs.text.Ends.{copied}
 use denote.Ref.{now}
 use lib.Seq.{take-all}

@@ -1,3 +1,4 @@
+-- `value_text::text_entry::well_formed` meets its contract.
 use Rattle.value_text.proofs.text.Ends.{formed-empty, formed-trailing, formed-is}
 use Rattle.value_text.specs.text.Texts.{leadingBlank}
 use denote.Ref.{now}

@@ -1,3 +1,4 @@
+-- `value_text::text_entry::write_text` meets its contract.
 use Rattle.value_text.proofs.text.Ends.{text-unprintable, text-malformed, text-no-room, text-agreed, filled}
 use Rattle.base_digits.proofs.digits.Answers.{made, turned-away}
 use borrow.Author.Tests.{not-true, not-false}

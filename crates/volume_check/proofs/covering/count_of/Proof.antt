@@ -1,3 +1,4 @@
+-- `volume_check::covering::count_of` meets its contract.
 use Rattle.volume_check.proofs.covering.Walks.{step-none, step-long, step-same, step-other}
 use borrow.Author.Needs.{needs}
 use Rattle.volume_check.proofs.covering.count_of.Statement.{statement}

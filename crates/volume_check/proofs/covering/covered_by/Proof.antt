@@ -1,3 +1,4 @@
+-- `volume_check::covering::covered_by` meets its contract.
 use denote.Ref.{now}
 use native.Mathlib.Nat.{sub-zero}
 use Rattle.volume_check.proofs.covering.Walks.{step-lent}

@@ -1,3 +1,4 @@
+-- `volume_check::covering::is_mixed` meets its contract.
 use denote.Ref.{now}
 use Prim.Native.Nat.{_-_, _*_, _/_, _≤_}
 use native.Mathlib.Nat.{sub-zero}

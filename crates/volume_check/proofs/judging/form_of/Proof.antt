@@ -1,3 +1,4 @@
+-- `volume_check::judging::form_of` meets its contract.
 use Rattle.volume_check.proofs.judging.Parts.{form-none, form-short, form-wide, form-old}
 use borrow.Author.Needs.{needs}
 use Rattle.volume_check.proofs.judging.form_of.Statement.{statement}

@@ -1,3 +1,4 @@
+-- `volume_edit::compact::close` meets its contract.
 use Rattle.volume_edit.proofs.compact.Ways.{closed-written}
 use borrow.Author.Needs.{needs}
 use Rattle.volume_edit.proofs.compact.close.Statement.{statement}

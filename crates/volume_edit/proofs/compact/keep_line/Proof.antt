@@ -1,3 +1,4 @@
+-- `volume_edit::compact::keep_line` meets its contract.
 use Rattle.volume_edit.proofs.compact.Ways.{kept-written}
 use borrow.Author.Needs.{needs}
 use Rattle.volume_edit.proofs.compact.keep_line.Statement.{statement}

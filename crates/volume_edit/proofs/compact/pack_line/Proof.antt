@@ -1,3 +1,4 @@
+-- `volume_edit::compact::pack_line` meets its contract.
 use borrow.Author.Needs.{needs}
 use Rattle.volume_edit.proofs.compact.pack_line.Statement.{statement}
 use Rattle.volume_edit.proofs.compact.pack_line.Tie as tie

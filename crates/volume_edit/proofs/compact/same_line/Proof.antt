@@ -1,3 +1,4 @@
+-- `volume_edit::compact::same_line` meets its contract.
 use borrow.Author.Tests.{not-true, not-false}
 use Rattle.volume_edit.proofs.compact.Ways.{line-other, line-numbers}
 use borrow.Author.Needs.{needs}

@@ -1,3 +1,4 @@
+-- `volume_edit::compact::same_number` meets its contract.
 use Rattle.volume_edit.proofs.compact.Ways.{number-same}
 use borrow.Author.Needs.{needs}
 use Rattle.volume_edit.proofs.compact.same_number.Statement.{statement}

@@ -1,3 +1,4 @@
+-- `volume_edit::compact::sign_of` meets its contract.
 use mathlib.Core.Path.{sym, ap, _∙_}
 use mir.ValLaws.{toZ-ofZ}
 use mir.Syntax.{w64}

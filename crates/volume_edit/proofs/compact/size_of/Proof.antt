@@ -1,3 +1,4 @@
+-- `volume_edit::compact::size_of` meets its contract.
 use lib.IntN.{natAbs}
 use mathlib.Core.Path.{sym, ap, _∙_}
 use mir.ValLaws.{toZ-ofZ}

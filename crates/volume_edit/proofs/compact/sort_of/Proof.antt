@@ -1,3 +1,4 @@
+-- `volume_edit::compact::sort_of` meets its contract.
 use mathlib.Core.Path.{sym, ap, _∙_}
 use mir.ValLaws.{toZ-ofZ}
 use mir.Syntax.{w64}

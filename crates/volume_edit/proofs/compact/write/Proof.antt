@@ -1,3 +1,4 @@
+-- `volume_edit::compact::write` meets its contract.
 use denote.Ref.{now}
 use mathlib.Core.Path.{sym}
 use native.Mathlib.Omega.{arith}

@@ -1,3 +1,4 @@
+-- `volume_edit::convert::are_few` meets its contract.
 use Prim.Native.Nat.{_-_, _*_, _/_, _≤_}
 use native.Mathlib.Nat.{sub-zero}
 use native.Mathlib.Omega.{arith}

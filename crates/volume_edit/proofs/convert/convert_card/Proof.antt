@@ -1,3 +1,4 @@
+-- `volume_edit::convert::convert_card` meets its contract.
 use Prim.Native.Nat.{_+_, _*_}
 use mathlib.Core.Path.{ap, _∙_}
 use Rattle.volume_form.specs.Moved.{laidAt}

@@ -1,3 +1,4 @@
+-- `volume_edit::convert::judge_convert` meets its contract.
 use denote.Ref.{now}
 use mathlib.Core.Path.{sym, _∙_}
 use Rattle.volume_form.specs.Rows.{rowOf}

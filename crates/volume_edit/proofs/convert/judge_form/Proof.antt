@@ -1,3 +1,4 @@
+-- `volume_edit::convert::judge_form` meets its contract.
 use mathlib.Core.Path.{sym, ap, _∙_}
 use Rattle.header_check.specs.declared.Checked.the-variants.{Accepted, Refused}
 use Rattle.volume_rules.specs.Judged.{unless}

@@ -1,3 +1,4 @@
+-- `volume_edit::convert::widen` meets its contract.
 use denote.Ref.{now}
 use Prim.Native.Nat.{_*_}
 use lib.ListN.{take}

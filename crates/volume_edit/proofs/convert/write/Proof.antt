@@ -1,3 +1,4 @@
+-- `volume_edit::convert::write` meets its contract.
 use denote.Ref.{now}
 use mathlib.Core.Path.{refl, sym}
 use native.Mathlib.Omega.{arith}

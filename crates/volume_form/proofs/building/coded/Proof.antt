@@ -1,3 +1,4 @@
+-- `volume_form::building::coded` meets its contract.
 use Rattle.volume_form.proofs.building.Built.{laid-first}
 use mathlib.Core.Path.{_∙_}
 use borrow.Author.Needs.{needs}

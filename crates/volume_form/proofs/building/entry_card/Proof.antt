@@ -1,3 +1,4 @@
+-- `volume_form::building::entry_card` meets its contract.
 use Rattle.volume_form.specs.Marked.{padded}
 use Rattle.volume_form.proofs.building.Built.{size-columns, entry-built}
 use Rattle.volume_form.specs.Rows.{rowOf}

@@ -1,3 +1,4 @@
+-- `volume_form::building::lay_number` meets its contract.
 use Rattle.volume_form.proofs.building.Built.{number-laid′}
 use native.Mathlib.Omega.{arith}
 use borrow.Author.Needs.{needs}

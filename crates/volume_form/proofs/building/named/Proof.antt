@@ -1,3 +1,4 @@
+-- `volume_form::building::named` meets its contract.
 use denote.Ref.{now}
 use Rattle.volume_form.specs.Marked.{nameOf, sequenceOf}
 use Rattle.volume_form.specs.Moved.{laidAt}

@@ -1,3 +1,4 @@
+-- `volume_form::building::numbered` meets its contract.
 use Prim.Native.Nat.{_+_}
 use Rattle.volume_form.specs.Spelled.{spelled}
 use Rattle.volume_form.specs.Moved.{laidAt}

@@ -1,3 +1,4 @@
+-- `volume_form::building::trailer_card` meets its contract.
 use Rattle.volume_form.proofs.building.Built.{size-columns, trailer-built}
 use Rattle.volume_form.specs.Rows.{rowOf}
 use Rattle.volume_form.specs.Marked.{padded}

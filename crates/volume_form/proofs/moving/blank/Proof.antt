@@ -1,3 +1,4 @@
+-- `volume_form::moving::blank` meets its contract.
 use Rattle.volume_form.proofs.moving.Moves.{put-filled}
 use native.Mathlib.Omega.{arith}
 use borrow.Author.Needs.{needs}

@@ -1,3 +1,4 @@
+-- `volume_form::moving::lay` meets its contract.
 use Rattle.volume_form.proofs.moving.Moves.{put-copied}
 use borrow.Author.Needs.{needs}
 use Rattle.volume_form.proofs.moving.lay.Statement.{statement}

@@ -1,3 +1,4 @@
+-- `volume_form::moving::move_down` meets its contract.
 use native.Mathlib.Nat.{add-zero, sub-zero}
 use Rattle.volume_form.proofs.moving.Moves.{down-goes, moved-none}
 use Prim.Native.Nat.{_≤_, _+_, _-_}

@@ -1,3 +1,4 @@
+-- `volume_form::moving::move_up` meets its contract.
 use Rattle.volume_form.proofs.moving.Moves.{up-goes, moved-none}
 use Prim.Native.Nat.{_≤_}
 use mathlib.Core.Path.{_≡_, refl, sym, _∙_}

@@ -1,3 +1,4 @@
+-- `volume_form::reading::count_on` meets its contract.
 use Rattle.volume_form.proofs.reading.Walks.{count-part}
 use Rattle.volume_form.specs.Rows.{rowOf}
 use borrow.Author.Needs.{needs}

@@ -1,3 +1,4 @@
+-- `volume_form::reading::first_on` meets its contract.
 use Rattle.volume_form.specs.Marked.{firstOn}
 use borrow.Author.Needs.{needs}
 use Rattle.volume_form.proofs.reading.first_on.Statement.{statement}

@@ -1,3 +1,4 @@
+-- `volume_form::reading::number_on` meets its contract.
 use Rattle.volume_form.proofs.reading.Walks.{number-part}
 use borrow.Author.Needs.{needs}
 use Rattle.volume_form.proofs.reading.number_on.Statement.{statement}

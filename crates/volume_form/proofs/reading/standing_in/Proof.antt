@@ -1,3 +1,4 @@
+-- `volume_form::reading::standing_in` meets its contract.
 use denote.Ref.{now}
 use Rattle.volume_form.proofs.reading.Walks.{value-goes, value-ends, value-bound, value-more}
 use Rattle.volume_form.specs.Spelled.{standing}

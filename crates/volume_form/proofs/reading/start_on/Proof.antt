@@ -1,3 +1,4 @@
+-- `volume_form::reading::start_on` meets its contract.
 use Rattle.volume_form.specs.Marked.{startOn}
 use borrow.Author.Needs.{needs}
 use Rattle.volume_form.proofs.reading.start_on.Statement.{statement}
