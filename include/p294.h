@@ -52,7 +52,8 @@ enum { P294_DISK_CARDS = 800, P294_FAULTS = 73574 };
 enum {
     P294_EMPTY = 1,         /* length 0; card and column 0 */
     P294_LENGTH = 2,        /* not whole cards; for one card, not 80 bytes; card and column 0 */
-    P294_TOO_MANY = 3,      /* more cards than P294_CARDS, on a diskette P294_DISK_CARDS; card and column 0 */
+    P294_TOO_MANY = 3,      /* more cards than P294_CARDS, on a diskette P294_DISK_CARDS, in an old volume 800; card and
+                               column 0 */
     P294_BYTE = 4,          /* a byte outside 32..126, at its column; of a text that is put, column 0 */
     P294_UNKNOWN_CODE = 5,  /* column 1 */
     P294_OUT_OF_PLACE = 6,  /* the opening cards are not in order, or no H00@8 is among them: then at the first card behind

@@ -34,7 +34,7 @@ fn say_why(number: usize) {
         UNPRINTABLE => say(b"this byte is no printable ASCII character.\n"),
         TOO_LONG => say(b"the line has more than 80 characters.\n"),
         NO_LINE_END => say(b"a line ends in CR and LF together, and this one does not.\n"),
-        _ => say(b"more than 65600 bytes, and no header has so many.\n"),
+        _ => say(b"more than 65600 bytes, the most that is translated.\n"),
     }
 }
 
