@@ -24,11 +24,12 @@ ghost use Rattle.p294.specs.answers.Replies.{plain, refusedReply, doneRe
 // What the answer with a text says.
 const TEXT: i64 = 5;
 
-// What an answer says, and the numbers that go with it.
+// What an answer says, and the numbers that go with it. No two that stand side by side in the caller's list do so here: the
+// compiler would load both as one, which has to wait until they are stored.
 pub struct Reply {
+    pub second: i64,
     pub said: i64,
     pub first: i64,
-    pub second: i64,
     pub third: i64,
 }
 

@@ -11,7 +11,7 @@ use Rattle.p294.proofs.give.Tie as tie
 
 -- src/lib.rt:192:9
 returns : tie.Need-returns
-returns c = (back _ _ (record { sfits = c .before .struct-told .given .0 .1 }) refl, not-given (now (c .before .before .args .numbers)) (c .before .before .args .reply) (omega arith))
+returns c = (back _ _ (record { sfits = c .before .struct-told .given .1 .0 .1 }) refl, not-given (now (c .before .before .args .numbers)) (c .before .before .args .reply) (omega arith))
 
 -- src/lib.rt:197:5
 slice-set-from-first : tie.Need-slice-set-from-first
@@ -31,7 +31,7 @@ same-length c = search needs
 
 -- src/lib.rt:186:1
 returns-2 : tie.Need-returns-2
-returns-2 c = (back _ _ (record { sfits = c .before .before .before .before .struct-told .given .0 .1 }) refl, all-given (now (c .before .before .before .before .before .args .numbers)) (c .before .before .before .before .before .args .reply) _ _ _ (omega arith) (back _ _ (record { sfits = c .before .before .struct-told2 .given .1 .0 .1 }) refl) (back _ _ (record { sfits = c .before .struct-told3 .given .1 .1 .0 .1 }) refl) (back _ _ (record { sfits = c .struct-told4 .given .1 .1 .1 .0 .1 }) refl))
+returns-2 c = (back _ _ (record { sfits = c .before .before .before .before .struct-told .given .1 .0 .1 }) refl, all-given (now (c .before .before .before .before .before .args .numbers)) (c .before .before .before .before .before .args .reply) _ _ _ (omega arith) (back _ _ (record { sfits = c .before .before .struct-told2 .given .1 .1 .0 .1 }) refl) (back _ _ (record { sfits = c .before .struct-told3 .given .0 .1 }) refl) (back _ _ (record { sfits = c .struct-told4 .given .1 .1 .1 .0 .1 }) refl))
 
 pub give-spec : {M : Type 1} → statement M
 give-spec =

@@ -15,7 +15,7 @@ returns : tie.Need-returns
 unfolding textAlone
 returns c =
     let a = c .before .before .args in
-    let f = toZ-ofZ w64 (a .reply .said) (record { sfits = c .before .struct-told .given .0 .1 }) in
+    let f = toZ-ofZ w64 (a .reply .said) (record { sfits = c .before .struct-told .given .1 .0 .1 }) in
     rw (says-text (a .reply .said) (sym f ∙ ap (toZ w64) (c .if1 .taken)))
 
 done-requires : tie.Need-done-requires
@@ -26,7 +26,7 @@ unfolding textAlone
 returns-2 c =
     let t = c .before .before .before in
     let a = t .before .args in
-    let f = toZ-ofZ w64 (a .reply .said) (record { sfits = t .struct-told .given .0 .1 }) in
+    let f = toZ-ofZ w64 (a .reply .said) (record { sfits = t .struct-told .given .1 .0 .1 }) in
     c .done .ensures
     ∙ rw (says-value (a .reply .said) (λ q. c .before .before .if1 .left (ap (ofZ w64) q))
     (ap (λ z. ltZ (pos 0) z) (sym f) ∙ c .before .if2 .taken))
@@ -36,7 +36,7 @@ unfolding textAlone
 returns-3 c =
     let t = c .before .before in
     let a = t .before .args in
-    let f = toZ-ofZ w64 (a .reply .said) (record { sfits = t .struct-told .given .0 .1 }) in
+    let f = toZ-ofZ w64 (a .reply .said) (record { sfits = t .struct-told .given .1 .0 .1 }) in
     rw (says-none (a .reply .said) (ap (λ z. ltZ (pos 0) z) (sym f) ∙ c .if2 .left))
 
 pub of-text-spec : {M : Type 1} → statement M
