@@ -56,11 +56,13 @@ fn give(numbers: &mut [i64], reply: Reply) -> i64
     said
 }
 
-// What stands in a field, as numbers: both readers call it, so that all of the reading is compiled into it.
+// What stands in a field, as numbers: both readers call it, so that all of the reading is compiled into it. The card is handed
+// on as a part of itself: a slice that is passed on as it came is copied as one, which has to wait until both halves are stored.
 fn reading(card: &[u8], number: usize, form: usize) -> Reply
     ensures { λ r. ⌜ r ≡ fieldReply (fieldReading (now (card .entry)) number form) ⌝ }
 {
-    answers::of_field(card_field::read_field(card, number, form))
+    let columns = card.len();
+    answers::of_field(card_field::read_field(&card[..columns], number, form))
 }
 
 // What stands in the field with a number, its coordinates in the form that is given.
