@@ -6,12 +6,12 @@ use native.Mathlib.Omega.{arith}
 use mathlib.Core.Path.{_≡_, refl, sym, ap, ap₂, _∙_}
 use mathlib.Core.List.{List, [], _∷_, _++_}
 use mathlib.Core.Option.{Option, none, some}
-use mathlib.Core.Bool.{Bool, true, false, cond, _&&_, _||_, not}
+use mathlib.Core.Bool.{Bool, true, false, true≢false, cond, _&&_, _||_, not}
 use lib.ListN.{length, getD, take, drop, drop-of-length-le, length-append, length-take, List·getD-eq-default}
 use lib.Seq.{drop-cons, drop-drop, getD-drop, length-take-le}
-use lib.Dec.{eqb, ltb}
-use borrow.Author.Tests.{eq-eqb, ne-eqb, eqb-true, eqb-false, lt-ltb, le-ltb, ltb-false}
-use native.Mathlib.Decide.{decLt}
+use lib.Dec.{eqb, ltb, leb}
+use borrow.Author.Tests.{eq-eqb, ne-eqb, eqb-true, eqb-false, lt-ltb, le-ltb, ltb-true, ltb-false, le-leb, leb-true}
+use native.Mathlib.Decide.{decLt, decLe}
 use Rattle.base_digits.proofs.digits.Bools.{and-left, and-right}
 use Rattle.base_refusal.specs.declared.Refusal.{Refusal}
 use Rattle.base_refusal.specs.Refusals.{refusal}
@@ -237,6 +237,24 @@ plain-byte b k e = go (eqb b 13) (eqb b 10) (ltb b 32) (ltb 126 b) (ltb k 80) re
     go false false false true t a b′ c d f z = absurd (omega (arith, z))
     go false false false false false a b′ c d f z = absurd (omega (arith, z))
     go false false false false true a b′ c d f z = record { not-cr = a; not-lf = b′; from = c; to = d; within = f }
+
+-- a byte that is printable is no part of a line end
+pub good-byte : (b : ℕ) → (leb 32 b && leb b 126) ≡ true → ((eqb b 13 || eqb b 10) ≡ false) × ((ltb b 32 || ltb 126 b) ≡ false)
+good-byte b t =
+    let from : 32 ≤ b = leb-true 32 b (and-left (leb 32 b) (leb b 126) t) in
+    let to : b ≤ 126 = leb-true b 126 (and-right (leb 32 b) (leb b 126) t) in
+    (rw (ne-eqb b 13 (λ e. omega arith), ne-eqb b 10 (λ e. omega arith)), rw (le-ltb b 32 from, le-ltb 126 b to))
+
+-- one that is not printable stands on one side
+pub bad-byte : (b : ℕ) → (leb 32 b && leb b 126) ≡ false → (ltb b 32 || ltb 126 b) ≡ true
+bad-byte b t = elim (decLe 32 b) [
+  | yes from ↦
+      elim (decLe b 126) [
+        | yes to ↦ absurd (true≢false (rw (le-leb 32 b from, le-leb b 126 to) at t))
+        | no to ↦ rw (le-ltb b 32 from, lt-ltb 126 b (omega arith))
+      ]
+  | no from ↦ rw (lt-ltb b 32 (omega arith))
+]
 
 pub onto-length : (b : ℕ) (ls : List (List ℕ)) → length (onto b ls) ≡ length ls
 onto-length b [] = refl

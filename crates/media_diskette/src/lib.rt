@@ -139,20 +139,21 @@ pub fn to_diskette(cards: &[u8], out: &mut [u8]) -> Converted
     }
 }
 
-// The offence of a byte that begins no line end, behind k bytes of its line; 0 for none.
+// The offence of a byte that begins no line end, behind k bytes of its line; 0 for none. Most bytes have none, and need two
+// tests here.
 fn offence_of(b: u8, k: usize) -> usize
     ensures { λ r. ⌜ r ≡ offenceOf b k ⌝ }
 {
+    if (BLANK <= b) & (b <= LAST) {
+        if k < CARD {
+            return 0;
+        }
+        return TOO_LONG;
+    }
     if (b == CR) | (b == LF) {
         return NO_LINE_END;
     }
-    if (b < BLANK) | (LAST < b) {
-        return UNPRINTABLE;
-    }
-    if k < CARD {
-        return 0;
-    }
-    TOO_LONG
+    UNPRINTABLE
 }
 
 // The length of the cards of so many lines, if a header may have as many.
@@ -175,18 +176,19 @@ fn count_lines(file: &[u8]) -> Converted
     let mut i = 0;
     while i < file.len() {
         let b = file[i];
+        let number = offence_of(b, k);
+        if number == 0 {
+            k += 1;
+            i += 1;
+            continue;
+        }
         if (b == CR) & (base_lists::byte_at(file, i + 1) == LF) {
             lines += 1;
             k = 0;
             i += LINE_END;
             continue;
         }
-        let number = offence_of(b, k);
-        if number != 0 {
-            return Converted::Refused(refuse(number, lines + 1, k + 1));
-        }
-        k += 1;
-        i += 1;
+        return Converted::Refused(refuse(number, lines + 1, k + 1));
     }
     if k != 0 {
         return Converted::Refused(refuse(NO_LINE_END, lines + 1, k + 1));

@@ -20,16 +20,39 @@ abbrev μ-loop : tie.MeasureT-loop
 μ-loop file lines₀ k₀ i₀ lines k i = length file - i
 
 -- both bytes of a line end lie within the file
-two : (c : tie.Then1 Inv-loop μ-loop) → c .before .before .before .before .loop .i + 1 < length (now (c .before .before .before .before .before .before .args .file))
+two : (c : tie.Then2 Inv-loop μ-loop) → c .before .before .before .before .before .before .loop .i + 1 < length (now (c .before .before .before .before .before .before .before .before .args .file))
 two c =
-    let l = c .before .before .before .before .loop in
-    end-within (now (c .before .before .before .before .before .before .args .file)) (l .lines) (l .k) (l .i) (c .before .before .before .loop-test .taken) (c .before .byte-at .result) (c .before .byte-at .ensures) (c .if1 .taken)
+    let l = c .before .before .before .before .before .before .loop in
+    end-within (now (c .before .before .before .before .before .before .before .before .args .file)) (l .lines) (l .k) (l .i) (c .before .before .before .before .before .loop-test .taken) (c .before .byte-at .result) (c .before .byte-at .ensures) (c .if2 .taken)
 
 loop-holds : tie.Need-loop-holds Inv-loop μ-loop
 loop-holds c = (search needs, search needs, search needs, counted-begins _)
 
 shared-slice-read-b : tie.Need-shared-slice-read-b Inv-loop μ-loop
 shared-slice-read-b c = search needs
+
+offence-of-requires : tie.Need-offence-of-requires Inv-loop μ-loop
+offence-of-requires c κs = search needs
+
+add-k : tie.Need-add-k Inv-loop μ-loop
+add-k c = search needs
+
+add-i : tie.Need-add-i Inv-loop μ-loop
+add-i c = search needs
+
+loop-less : tie.Need-loop-less Inv-loop μ-loop
+loop-less c = search needs
+
+loop-again : tie.Need-loop-again Inv-loop μ-loop
+loop-again c =
+    let l = c .before .before .before .before .loop in
+    let f = now (c .before .before .before .before .before .before .args .file) in (
+      omega arith,
+      omega arith,
+      omega arith,
+      l .inv .3
+          ∙ step-on f (l .lines) (l .k) (l .i) (c .before .before .before .loop-test .taken) (c .before .offence-of .result) (c .before .offence-of .ensures) (c .if1 .taken),
+    )
 
 add-byte-at : tie.Need-add-byte-at Inv-loop μ-loop
 add-byte-at c = search needs
@@ -40,25 +63,22 @@ byte-at-requires c κs = search needs
 add-lines : tie.Need-add-lines Inv-loop μ-loop
 add-lines c = search needs
 
-add-i : tie.Need-add-i Inv-loop μ-loop
-add-i c = omega (arith, two c)
+add-i-2 : tie.Need-add-i-2 Inv-loop μ-loop
+add-i-2 c = omega (arith, two c)
 
-loop-less : tie.Need-loop-less Inv-loop μ-loop
-loop-less c = omega (arith, two c)
+loop-less-2 : tie.Need-loop-less-2 Inv-loop μ-loop
+loop-less-2 c = omega (arith, two c)
 
-loop-again : tie.Need-loop-again Inv-loop μ-loop
-loop-again c =
-    let l = c .before .before .before .before .loop in
-    let f = now (c .before .before .before .before .before .before .args .file) in
+loop-again-2 : tie.Need-loop-again-2 Inv-loop μ-loop
+loop-again-2 c =
+    let l = c .before .before .before .before .before .before .loop in
+    let f = now (c .before .before .before .before .before .before .before .before .args .file) in
     let t = two c in (
       omega arith,
       omega arith,
       omega arith,
-      l .inv .3 ∙ step-end f (l .lines) (l .k) (l .i) (c .before .before .before .loop-test .taken) (c .before .byte-at .result) (c .before .byte-at .ensures) (c .if1 .taken),
+      l .inv .3 ∙ step-end f (l .lines) (l .k) (l .i) (c .before .before .before .before .before .loop-test .taken) (c .before .byte-at .result) (c .before .byte-at .ensures) (c .if2 .taken),
     )
-
-offence-of-requires : tie.Need-offence-of-requires Inv-loop μ-loop
-offence-of-requires c κs = search needs
 
 add-refuse : tie.Need-add-refuse Inv-loop μ-loop
 add-refuse c = search needs
@@ -74,29 +94,9 @@ returns c =
     let l = c .before .before .before .before .before .before .before .loop in
     let f = now (c .before .before .before .before .before .before .before .before .before .args .file) in
     ap Refused (c .refuse .ensures)
-    ∙ step-stop f (l .lines) (l .k) (l .i) (c .before .before .before .before .before .before .loop-test .taken) (c .before .before .before .before .byte-at .result) (c .before .before .offence-of .result)
-    (c .before .before .before .before .byte-at .ensures) (c .before .before .before .if1 .left) (c .before .before .offence-of .ensures) (c .before .if2 .taken)
+    ∙ step-stop f (l .lines) (l .k) (l .i) (c .before .before .before .before .before .before .loop-test .taken) (c .before .before .byte-at .result) (c .before .before .before .before .offence-of .result)
+    (c .before .before .byte-at .ensures) (c .before .if2 .left) (c .before .before .before .before .offence-of .ensures) (c .before .before .before .if1 .left)
     ∙ sym (l .inv .3)
-
-add-k : tie.Need-add-k Inv-loop μ-loop
-add-k c = search needs
-
-add-i-2 : tie.Need-add-i-2 Inv-loop μ-loop
-add-i-2 c = search needs
-
-loop-less-2 : tie.Need-loop-less-2 Inv-loop μ-loop
-loop-less-2 c = search needs
-
-loop-again-2 : tie.Need-loop-again-2 Inv-loop μ-loop
-loop-again-2 c =
-    let l = c .before .before .before .before .before .before .loop in
-    let f = now (c .before .before .before .before .before .before .before .before .args .file) in (
-      omega arith,
-      omega arith,
-      omega arith,
-      l .inv .3
-          ∙ step-on f (l .lines) (l .k) (l .i) (c .before .before .before .before .before .loop-test .taken) (c .before .offence-of .result) (c .before .offence-of .ensures) (c .if2 .left),
-    )
 
 add-refuse-3 : tie.Need-add-refuse-3 Inv-loop μ-loop
 add-refuse-3 c = search needs
@@ -130,21 +130,21 @@ count-lines-spec =
     μ-loop
     loop-holds
     shared-slice-read-b
-    add-byte-at
-    byte-at-requires
-    add-lines
+    offence-of-requires
+    add-k
     add-i
     loop-less
     loop-again
-    offence-of-requires
+    add-byte-at
+    byte-at-requires
+    add-lines
+    add-i-2
+    loop-less-2
+    loop-again-2
     add-refuse
     add-refuse-2
     refuse-requires
     returns
-    add-k
-    add-i-2
-    loop-less-2
-    loop-again-2
     add-refuse-3
     add-refuse-4
     refuse-requires-2
