@@ -16,6 +16,7 @@ ghost use mathlib.Core.Path.{_≡_};
 ghost use Prim.Native.Nat.{_≤_};
 ghost use lib.ListN.{length};
 ghost use Rattle.format_layout.specs.packed.Rows.{unpack};
+ghost use Rattle.card_field.specs.needing.Needs.{neededOn};
 ghost use Rattle.card_field.specs.judging.Fields.{spellingOf, textLast, readLast, valueOf, heldOf, judgedOf, misplacedOn};
 
 // What a field says, or the number of its offence.
@@ -49,14 +50,14 @@ pub fn spelling_of(kind: Kind, form: Form) -> Spelling
     }
 }
 
-// A value held against its field's need and range.
-fn value_of(needed: bool, row: u64, v: Value) -> Judged
-    requires { ⌜ (1 ≤ unpack row .first) × (unpack row .first ≤ 80) × (textLast v ≤ 80) ⌝ }
-    ensures { λ r. ⌜ r ≡ valueOf needed (unpack row) v ⌝ }
+// A value held against its field's need and range; only of one that is absent is it asked whether it is needed.
+fn value_of(card: &[u8], layout: usize, row: u64, v: Value) -> Judged
+    requires { ⌜ (length (now card) ≡ 80) × (1 ≤ unpack row .first) × (unpack row .first ≤ 80) × (textLast v ≤ 80) ⌝ }
+    ensures { λ r. ⌜ r ≡ valueOf (neededOn layout (now (card .entry)) (unpack row)) (unpack row) v ⌝ }
 {
     match v {
         Value::Absent => {
-            if needed {
+            if needing::needed_on(card, layout, row) {
                 return Judged::Not(MISSING);
             }
             Judged::Is(Value::Absent)
@@ -79,12 +80,12 @@ fn value_of(needed: bool, row: u64, v: Value) -> Judged
 }
 
 // A reading held against its field's need and range.
-fn held_of(needed: bool, row: u64, r: Reading) -> Judged
-    requires { ⌜ (1 ≤ unpack row .first) × (unpack row .first ≤ 80) × (readLast r ≤ 80) ⌝ }
-    ensures { λ j. ⌜ j ≡ heldOf needed (unpack row) r ⌝ }
+fn held_of(card: &[u8], layout: usize, row: u64, r: Reading) -> Judged
+    requires { ⌜ (length (now card) ≡ 80) × (1 ≤ unpack row .first) × (unpack row .first ≤ 80) × (readLast r ≤ 80) ⌝ }
+    ensures { λ j. ⌜ j ≡ heldOf (neededOn layout (now (card .entry)) (unpack row)) (unpack row) r ⌝ }
 {
     match r {
-        Reading::Held(v) => value_of(needed, row, v),
+        Reading::Held(v) => value_of(card, layout, row, v),
         Reading::Malformed => Judged::Not(MALFORMED),
         Reading::OutOfRange => Judged::Not(OUTSIDE),
     }
@@ -97,7 +98,7 @@ pub fn judge(card: &[u8], layout: usize, row: u64, form: Form) -> Judged
 {
     let columns = needing::columns(card, fields::first_of(row), fields::last_of(row));
     let reading = spelling::read(columns, spelling_of(fields::kind_of(row), form));
-    held_of(needing::needed_on(card, layout, row), row, reading)
+    held_of(card, layout, row, reading)
 }
 
 // Whether the field that a row holds has a misplaced number on a card.

@@ -98,9 +98,9 @@ columns-few s t first last h e =
 -- what judging a field puts together
 pub judged-is : (k : ℕ) (s : List ℕ) (f : Field) (form : Form) (first last : ℕ) → first ≡ f .first → last ≡ f .last
     → (t : List ℕ) → t ≡ take (last - (first - 1)) (drop (first - 1) s) → (d : Kind) → d ≡ f .kind → (x : Spelling) → x ≡ spellingOf d form
-    → (r : Reading) → r ≡ readingOf x t → (needed : Bool) → needed ≡ neededOn k s f → heldOf needed f r ≡ judgedOf k s f form
+    → (r : Reading) → r ≡ readingOf x t → heldOf (neededOn k s f) f r ≡ judgedOf k s f form
 unfolding judgedOf columnsOf
-judged-is k s f form first last a b t c d e x g r h needed i = rw (i, h, g, e, c, a, b)
+judged-is k s f form first last a b t c d e x g r h = rw (h, g, e, c, a, b)
 
 -- what looking for a misplaced number puts together
 pub misplaced-is : (s : List ℕ) (f : Field) (form : Form) (first last : ℕ) → first ≡ f .first → last ≡ f .last

@@ -27,19 +27,17 @@ spelling-of-requires c κs = search needs
 read-requires : tie.Need-read-requires
 read-requires c κs = search needs
 
-needed-on-requires : tie.Need-needed-on-requires
-needed-on-requires c κs = search needs
-
 held-of-requires : tie.Need-held-of-requires
 held-of-requires c κs =
-    let p = c .before .before .before .before .before .before .before .before .pre in
-    let t = now (c .before .before .before .before .columns .result) in
-    omega (arith, p, columns-few (now (c .before .before .before .before .before .before .before .before .args .card)) t (c .before .before .before .before .before .before .first-of .result) (c .before .before .before .before .before .last-of .result) (omega (arith, c .before .before .before .before .before .last-of .ensures, p .3)) (c .before .before .before .before .columns .ensures), read-last t (c .before .before .spelling-of .result), ap readLast (c .before .read .ensures))
+    let p = c .before .before .before .before .before .before .before .pre in
+    let t = now (c .before .before .before .columns .result) in
+    omega (arith, p, columns-few (now (c .before .before .before .before .before .before .before .args .card)) t (c .before .before .before .before .before .first-of .result) (c .before .before .before .before .last-of .result) (omega (arith, c .before .before .before .before .last-of .ensures, p .3)) (c .before .before .before .columns .ensures), read-last t (c .before .spelling-of .result), ap readLast (c .read .ensures))
 
 returns : tie.Need-returns
 returns c =
+    let a = c .before .before .before .before .before .before .before .before .args in
     c .held-of .ensures
-    ∙ judged-is _ (now (c .before .before .before .before .before .before .before .before .before .args .card)) (unpack (c .before .before .before .before .before .before .before .before .before .args .row)) _ _ _ (c .before .before .before .before .before .before .before .first-of .ensures) (c .before .before .before .before .before .before .last-of .ensures) (now (c .before .before .before .before .before .columns .result)) (c .before .before .before .before .before .columns .ensures) _ (c .before .before .before .before .kind-of .ensures) _ (c .before .before .before .spelling-of .ensures) _ (c .before .before .read .ensures) _ (c .before .needed-on .ensures)
+    ∙ judged-is (a .layout) (now (a .card)) (unpack (a .row)) _ _ _ (c .before .before .before .before .before .before .first-of .ensures) (c .before .before .before .before .before .last-of .ensures) (now (c .before .before .before .before .columns .result)) (c .before .before .before .before .columns .ensures) _ (c .before .before .before .kind-of .ensures) _ (c .before .before .spelling-of .ensures) _ (c .before .read .ensures)
 
 pub judge-spec : {M : Type 1} → statement M
 judge-spec =
@@ -51,6 +49,5 @@ judge-spec =
     kind-of-requires
     spelling-of-requires
     read-requires
-    needed-on-requires
     held-of-requires
     returns)
