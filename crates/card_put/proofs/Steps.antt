@@ -31,7 +31,6 @@ use Rattle.format_layout.specs.Columns.{ranged}
 use Rattle.format_layout.specs.declared.Field.{Field}
 use Rattle.format_layout.specs.declared.Form.{Form}
 use Rattle.format_layout.specs.Forms.{formNumbered}
-use Rattle.format_layout.specs.declared.Found.the-variants as found
 use Rattle.format_layout.specs.ranges.Ranges.{inRange}
 use Rattle.format_layout.specs.Layouts.{isAny}
 use Rattle.format_layout.proofs.Numbers.{found-ranged}

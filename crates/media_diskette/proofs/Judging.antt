@@ -10,7 +10,7 @@ use mathlib.Core.Bool.{Bool, true, false, true≢false, cond, _&&_, _||_, not}
 use lib.ListN.{length, getD, take, drop, drop-of-length-le, length-append, length-take, List·getD-eq-default}
 use lib.Seq.{drop-cons, drop-drop, getD-drop, length-take-le}
 use lib.Dec.{eqb, ltb, leb}
-use borrow.Author.Tests.{eq-eqb, ne-eqb, eqb-true, eqb-false, lt-ltb, le-ltb, ltb-true, ltb-false, le-leb, leb-true}
+use borrow.Author.Tests.{eq-eqb, ne-eqb, eqb-true, eqb-false, lt-ltb, le-ltb, ltb-false, le-leb, leb-true}
 use native.Mathlib.Decide.{decLt, decLe}
 use Rattle.base_digits.proofs.digits.Bools.{and-left, and-right}
 use Rattle.base_refusal.specs.declared.Refusal.{Refusal}

@@ -8,13 +8,12 @@ use lib.ListN.{length, take, drop, length-append, length-take, take-append-drop}
 use lib.Seq.{take-all}
 use lib.Dec.{eqb, ltb}
 use borrow.Author.Tests.{eqb-true, ne-eqb, le-ltb, leb-true}
-use Rattle.base_digits.specs.digits.Figures.{blanks, unpadded, isDigit, leading, behind, valueFrom, limit, capped}
-use Rattle.base_digits.specs.signs.Signs.{signedOf}
+use Rattle.base_digits.specs.digits.Figures.{blanks, unpadded, isDigit, leading, behind}
 use Rattle.base_digits.proofs.digits.Bools.{and-left, and-right}
 use Rattle.base_digits.proofs.digits.Walk.{all-leading}
 use Rattle.base_value.specs.declared.Decimal.{Decimal as DecimalOf}
 use Rattle.base_value.specs.declared.Value.the-variants.{Decimal}
-use Rattle.base_value.specs.declared.Reading.the-variants.{Held, OutOfRange}
+use Rattle.base_value.specs.declared.Reading.the-variants.{Held}
 use Rattle.value_number.specs.declared.number.Figures.{Figures}
 use Rattle.value_number.specs.declared.number.Figures.the-variants.{Units, Not}
 use Rattle.value_number.specs.number.Reading.{allDigits, unitsOf, pointOf, figuresOf, heldOf, signOf, numberOf}
