@@ -182,6 +182,7 @@ fn count_lines(file: &[u8]) -> Converted
             i += 1;
             continue;
         }
+        // a CR is an offence only where no LF follows
         if (b == CR) & (base_lists::byte_at(file, i + 1) == LF) {
             lines += 1;
             k = 0;
