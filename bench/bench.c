@@ -1,8 +1,8 @@
 // Times the proved library, the second implementation, the yardstick (of checks) and one bare pass over the bytes, in turns, and
 // prints the least time of each with the ratios; then how time grows with the cards, and how deep the library goes into the stack.
 // It first holds the answers to each other on all that is timed, and ends where they differ.
-// Usage: bench [SECONDS [FILE [count]]]; the least times in the file, left there by the same program at other addresses, count too.
-// With `count` it also steps through the checks and prints their instructions, which takes minutes.
+// Usage: bench [SECONDS [FILE]]; the least times in the file, left there by the same program at other addresses, count too.
+// bench call ROW [RUNNER]: makes one call of a check, and prints its name.
 #define _GNU_SOURCE
 #include "../include/p294.h"
 #include "../second/ebcdic.h"
@@ -10,7 +10,6 @@
 #include "headers.h"
 #include "logger.h"
 #include "season.h"
-#include "steps.h"
 #include "yardstick.h"
 
 #include <stdio.h>
@@ -507,28 +506,23 @@ static void print_growth(void)
 
 // Instructions.
 
-static void make_check(void *with)
+// The name of a check of 800 cards, for a tool that counts the instructions of one call; nothing for another row. Serials of one
+// chain would take too long.
+static int call_once(unsigned long number, const char *runner)
 {
-    struct row *r = ((void **)with)[0];
-    (*(void (**)(struct row *))((void **)with)[1])(r);
-}
-
-// Of the checks of whole headers; not of serials of one chain, which take too long one step at a time.
-static void print_instructions(void)
-{
-    void (*runners[])(struct row *) = {by_library, by_second, by_yardstick};
-    printf("\nInstructions a card.\n\n| what | library | second | yardstick |\n|---|---:|---:|---:|\n");
-    for (struct row *r = rows; r < rows + count; r++) {
-        if (r->operation != CHECK || of_other_size(r) || strcmp(r->name, grown[CROWDED].name) == 0)
-            continue;
-        printf("| %s |", r->name);
-        for (int i = 0; i < PASS; i++) {
-            long steps = steps_of(make_check, (void *[]){r, &runners[i]});
-            printf(steps < 0 ? " not counted |" : " %ld |", steps / FEW_CARDS);
-        }
-        printf("\n");
-        fflush(stdout);
-    }
+    static const char *const names[] = {"library", "second", "yardstick"};
+    static void (*const runners[])(struct row *) = {by_library, by_second, by_yardstick};
+    if (number >= count)
+        return EXIT_FAILURE;
+    struct row *r = &rows[number];
+    if (r->operation != CHECK || of_other_size(r) || strcmp(r->name, grown[CROWDED].name) == 0)
+        return EXIT_SUCCESS;
+    hold(r);
+    for (int i = 0; runner != NULL && i < PASS; i++)
+        if (strcmp(runner, names[i]) == 0)
+            runners[i](r);
+    printf("%s\n", r->name);
+    return EXIT_SUCCESS;
 }
 
 // The stack.
@@ -621,6 +615,8 @@ int main(int argc, char **argv)
 {
     double seconds = argc > 1 ? strtod(argv[1], NULL) : 15;
     make_rows();
+    if (argc > 2 && strcmp(argv[1], "call") == 0)
+        return call_once(strtoul(argv[2], NULL, 10), argv[3]);
     for (unsigned k = 0; k < count; k++)
         hold(&rows[k]);
     printf("All give the same answers in all %u cases.\n", count);
@@ -633,7 +629,5 @@ int main(int argc, char **argv)
     print_rows();
     print_growth();
     print_stack();
-    if (argc > 3)
-        print_instructions();
     return EXIT_SUCCESS;
 }
