@@ -4,12 +4,12 @@ ghost use mathlib.Core.Path.{_≡_};
 ghost use Prim.Native.Nat.{_*_};
 ghost use Rattle.card_screen.specs.Machine.{classOf, rowAt, Built};
 
-// A row for each byte, and behind these the rows of next states, 16 to a class.
+// An entry for each byte, which says where the rows of its class begin, and behind these the rows of next states, 16 to a class.
 pub const TABLE: usize = 512;
 
 const BYTES: usize = 256;
 
-// The class of a byte, times 16: a blank, a sign, a point, the digits, any other.
+// The class of a byte, times the 16 rows that it has: 0 is a blank, 1 a sign, 2 a point, 3 to 12 are the digits, 13 is any other.
 fn class_of(b: u8) -> u64
     ensures { λ r. ⌜ r ≡ 16 * classOf b ⌝ }
 {

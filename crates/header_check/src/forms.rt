@@ -42,7 +42,7 @@ const GRID: u8 = 2;
 const NOT_KNOWN: u8 = 3;
 
 // The number of the layout that reads a card with a code.
-pub fn number_of(code: Code) -> usize
+fn number_of(code: Code) -> usize
     ensures { λ r. ⌜ r ≡ numberOf code ⌝ }
 {
     match code {
@@ -177,7 +177,8 @@ fn note_card(notes: &mut [u8; NOTES], card: &[u8], layout: usize)
     }
 }
 
-// The notes of the forms that the cards of a header state; what is noted of each card is put in the lent array, as far as it has room.
+// The notes of the forms that the cards of a header state; what is noted of each card goes into the lent array, as far as it has
+// room.
 pub fn notes_of(header: &[u8], cards: &mut [u8; CARDS]) -> [u8; NOTES]
     requires { ⌜ length (now cards) ≡ largest ⌝ }
     ensures forms { λ r. ⌜ r ≡ notesTo (now (header .entry)) (cardsIn (now (header .entry))) ⌝ }

@@ -125,8 +125,8 @@ fn answer_for(verdict: Verdict, card: usize) -> Checked
     }
 }
 
-// All cards, with what is noted of them and of the forms that they state: the first offence decides. `inside` says that all cards so far belong
-// to the opening block, `line` that an H00@8 is among those that do.
+// All cards, with what is noted of them and of the forms that they state: the first offence decides. `inside` says that all cards
+// so far belong to the opening block, `line` that an H00@8 is among those that do.
 fn check_cards(header: &[u8], cards: &[u8; CARDS], notes: &[u8; NOTES]) -> Checked
     requires { ⌜ Noted (now header) (cardsIn (now header)) (now cards) ⌝ }
     requires { ⌜ cardsIn (now header) ≤ largest ⌝ }
