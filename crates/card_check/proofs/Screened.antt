@@ -1,5 +1,6 @@
 -- A card of which the screen is sure has no offence.
-use Prim.Native.Nat.{ℕ, zero, suc, _+_, _-_, _≤_}
+use Prim.Native.Nat.{ℕ, zero, suc, _+_, _-_, _≤_, _<_}
+use native.Mathlib.Decide.{decLt}
 use native.Mathlib.Omega.{arith}
 use native.Mathlib.Nat.{add-zero}
 use native.Mathlib.Numerals.{add-one}
@@ -12,6 +13,7 @@ use Rattle.base_lists.specs.Count.{firstFrom}
 use Rattle.format_layout.specs.declared.Field.{Field}
 use Rattle.format_layout.specs.declared.Form.{Form}
 use Rattle.format_layout.specs.Layouts.{fieldsOf, labelOf}
+use Rattle.format_layout.specs.packed.Rows.{layoutCount}
 use Rattle.format_layout.proofs.Columns.{inOrder, Lies, front, rest}
 use Rattle.card_screen.specs.Roles.{sure}
 use Rattle.card_screen.proofs.Lines.{past-plain}
@@ -53,7 +55,10 @@ module _ (k : ℕ) (form : Form) (s : List ℕ) where
       label-right k form s (label-here k s whole (omega (arith, none)) (λ j l. absurd (omega (arith, none)))) (omega (arith, none)) 6 (omega (arith, none))
       ∙ fields-fine (fieldsOf k) 6 (omega arith) (subst (λ (n : ℕ). T (inOrder (6 + n) (fieldsOf k))) none (in-order k)) (clean k s whole h)
 
--- and has a layout: none has the number for none
-pub sure-read : (k : ℕ) (s : List ℕ) → sure k s ≡ true → k ≡ 99 → ⊥
+-- and has a layout
+pub sure-read : (k : ℕ) (s : List ℕ) → sure k s ≡ true → k < layoutCount
 unfolding sure
-sure-read k s h e = true≢false (sym (rw (past-plain k (omega (arith, e))) at h))
+sure-read k s h = elim (decLt k layoutCount) [
+  | yes l ↦ l
+  | no l ↦ absurd (true≢false (sym (rw (past-plain k (omega (arith, l))) at h)))
+]

@@ -15,9 +15,9 @@ use Rattle.card_check.specs.declared.Verdict.the-variants.{Fine, Offence}
 use Rattle.card_check.specs.Judging.{verdictOf, codeVerdict}
 use Rattle.card_check.proofs.Ways.{verdict-coded}
 use Rattle.card_check.proofs.Screened.{sure-read, sure-fine}
-use Rattle.header_check.specs.forms.Cards.{unread, layoutOf}
+use Rattle.header_check.specs.forms.Cards.{layoutOf}
 use Rattle.header_check.specs.Refusing.{isUnknown, readable, placedVerdict}
-use Rattle.header_check.proofs.forms.Layouts.{read-code}
+use Rattle.header_check.proofs.forms.Steps.{read-code}
 
 -- a byte that is not printable comes first
 pub unprintable : (s : List ℕ) (form : Form) (placed : Bool) (bad : ℕ) → bad ≡ firstBad s → bad < 80
@@ -42,8 +42,7 @@ module _ (s : List ℕ) (form : Form) (whole : length s ≡ 80) (bad : ℕ) (is 
   pub placed-sure : (placed b : Bool) (k : ℕ) → k ≡ layoutOf s → b ≡ sure k s → placed && b ≡ true → Fine ≡ placedVerdict s form placed
   unfolding codeVerdict
   placed-sure true true k e q t =
-      let n : k ≡ unread → ⊥ = sure-read k s (sym q) in
-      sym (sure-fine k form s whole (sym q)) ∙ placed-by true (code.Read k) refl (read-code s k e n)
+      sym (sure-fine k form s whole (sym q)) ∙ placed-by true (code.Read k) refl (read-code s k e (sure-read k s (sym q)))
   placed-sure true false k e q t = absurd (true≢false (sym t))
   placed-sure false b k e q t = absurd (true≢false (sym t))
 

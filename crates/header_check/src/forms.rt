@@ -14,16 +14,17 @@ use format_layout::names::H0101;
 use format_layout::names::H5000;
 ghost use mathlib.Core.Path.{_≡_};
 ghost use Prim.Native.Nat.{_+_, _<_};
-ghost use lib.ListN.{length, set, take};
-ghost use Rattle.format_code.specs.Codes.{codeOf};
+ghost use lib.ListN.{length, set};
 ghost use Rattle.card_screen.specs.Machine.{Built};
-ghost use Rattle.header_check.specs.forms.Cards.{numberOf, cardsIn, layoutOf};
+ghost use Rattle.header_check.specs.forms.Cards.{numberOf, codeBy, cardsIn, layoutOf};
 ghost use Rattle.header_check.specs.packed.Notes.{noteCount, mark, noted, told, noteAt, noteCard, notesTo, formBy};
 ghost use Rattle.header_check.specs.Refusing.{largest};
-ghost use Rattle.header_check.specs.packed.Noted.{cardNote, layoutIn, isSure, notedTo};
+ghost use Rattle.header_check.specs.packed.Noted.{cardNote, layoutIn, isSure, isFlagged, withFlag, notedTo};
 
-// The number that stands for a code that no layout reads.
-pub const UNREAD: usize = 99;
+// The number that stands for a passed code, and behind it the one for an unknown code: no layout has either.
+pub const UNREAD: usize = 62;
+
+const UNKNOWN: usize = UNREAD + 1;
 
 // A note for the grid and one for each byte that names a vessel: bytes are compared, so that nobody has to argue that only digits
 // matter.
@@ -31,6 +32,9 @@ pub const NOTES: usize = 257;
 
 // Added to a layout's number where the screen is sure of a card.
 const SURE: u8 = 128;
+
+// Added by whoever reads the notes and has something to remember of a card.
+const FLAG: u8 = 64;
 
 // What a form's note says: no card seen, form 0, form 1, or it cannot be known.
 const NONE: u8 = 0;
@@ -48,7 +52,7 @@ fn number_of(code: Code) -> usize
     match code {
         Code::Read(k) => k,
         Code::Passed => UNREAD,
-        Code::Unknown => UNREAD,
+        Code::Unknown => UNKNOWN,
     }
 }
 
@@ -57,20 +61,22 @@ pub fn layout_of(card: &[u8]) -> usize
     ensures { λ r. ⌜ r ≡ layoutOf (now (card .entry)) ⌝ }
 {
     if card.len() < CODE {
-        return UNREAD;
+        return UNKNOWN;
     }
     number_of(format_code::code_of(&card[..CODE]))
 }
 
-// The code of a card whose layout is known: only one that no layout reads is looked up.
-pub fn code_by(card: &[u8], layout: usize) -> Code
-    requires { ⌜ (length (now card) ≡ 80) × (layout ≡ layoutOf (now card)) ⌝ }
-    ensures { λ r. ⌜ r ≡ codeOf (take 5 (now (card .entry))) ⌝ }
+// The code that a layout's number stands for.
+pub fn code_by(layout: usize) -> Code
+    ensures { λ r. ⌜ r ≡ codeBy layout ⌝ }
 {
-    if layout != UNREAD {
-        return Code::Read(layout);
+    if layout == UNREAD {
+        return Code::Passed;
     }
-    format_code::code_of(&card[..CODE])
+    if layout == UNKNOWN {
+        return Code::Unknown;
+    }
+    Code::Read(layout)
 }
 
 // What is noted of a card: the number of its layout, with SURE added where the screen is sure of it.
@@ -89,7 +95,7 @@ fn card_note(table: &[u64; TABLE], card: &[u8], layout: usize) -> u8
 pub fn layout_in(note: u8) -> usize
     ensures { λ r. ⌜ r ≡ layoutIn note ⌝ }
 {
-    (note % SURE) as usize
+    (note % FLAG) as usize
 }
 
 // Whether it tells that the screen is sure of the card.
@@ -97,6 +103,23 @@ pub fn is_sure(note: u8) -> bool
     ensures { λ r. ⌜ r ≡ isSure note ⌝ }
 {
     SURE <= note
+}
+
+// Whether it has a flag.
+pub fn is_flagged(note: u8) -> bool
+    ensures { λ r. ⌜ r ≡ isFlagged note ⌝ }
+{
+    FLAG <= note % SURE
+}
+
+// The note with a flag.
+pub fn with_flag(note: u8) -> u8
+    ensures { λ r. ⌜ r ≡ withFlag note ⌝ }
+{
+    if is_flagged(note) {
+        return note;
+    }
+    note + FLAG
 }
 
 // Puts a card's note in its place, if there is room.

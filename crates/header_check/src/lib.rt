@@ -98,7 +98,7 @@ fn judge_placed(card: &[u8], layout: usize, sure: bool, form: Form, placed: bool
     if placed & sure {
         return Verdict::Fine;
     }
-    let code = forms::code_by(card, layout);
+    let code = forms::code_by(layout);
     if placed {
         return card_check::judge_by(card, code, form);
     }

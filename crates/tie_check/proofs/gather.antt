@@ -1,4 +1,5 @@
 -- Laws of gathering.
 pub mod Slots
+pub mod Tags
 pub mod Growing
 pub mod Counting

@@ -1,5 +1,6 @@
 // Which kinds of fault a column of a card has, by what is told of the keys that it refers to and defines.
 use crate::entries::Broken;
+use crate::tags;
 use crate::totals::Totals;
 use crate::totals::VESSELS;
 use tie_rules::keys;
@@ -25,7 +26,7 @@ fn digits_differ(a: u16, b: u16) -> bool
     (a < NO_VESSEL) & ((b < NO_VESSEL) & (a != b))
 }
 
-// Whether a vessel digit contradicts: the vessel that the card states, or the tag of the only definition.
+// Whether a vessel digit contradicts: the vessel that the card states, or the digit in the tag of the only definition.
 fn contradicts(card: &[u8], row: u64, vessel: u16, tag: u16) -> bool
     ensures { λ r. ⌜ r ≡ contradictedBy (now (card .entry)) row vessel tag ⌝ }
 {
@@ -33,7 +34,7 @@ fn contradicts(card: &[u8], row: u64, vessel: u16, tag: u16) -> bool
         let column = keys::column_of(row);
         return keys::whole_in(card, column, column) != vessel as u64 + 1;
     }
-    digits_differ(vessel, tag)
+    digits_differ(vessel, tags::vessel_in(tag))
 }
 
 // Whether a count is stated, counted from 1, and another than the one found.
@@ -110,40 +111,35 @@ fn unbroken() -> Broken
     }
 }
 
-// What is told of the key that the column of a row defines: nothing that matters where no key is defined twice.
-fn told_defined(
-    keys: &[u64; ROOM],
-    links: &[u16; LINKS],
-    single: bool,
-    card: &[u8],
-    row: u64,
-) -> Told
+// What is told of the key that the column of a row defines: nothing that matters on a card without a key that is defined twice.
+fn told_defined(keys: &[u64; ROOM], links: &[u16; LINKS], once: bool, card: &[u8], row: u64) -> Told
     requires { ⌜ Linked (now keys) (now links) ⌝ }
-    ensures { λ r. ⌜ r ≡ toldDefined (now (keys .entry)) (now (links .entry)) single (now (card .entry)) row ⌝ }
+    ensures { λ r. ⌜ r ≡ toldDefined (now (keys .entry)) (now (links .entry)) once (now (card .entry)) row ⌝ }
 {
-    if single {
+    if once {
         return tie_store::nothing();
     }
     tie_store::look_up(keys, links, keys::defined_by(card, row))
 }
 
-// The same by the store. Where no key is defined twice, a column that only defines has no fault.
+// The same by the store. On a card without a key that is defined twice, a column that only defines has no fault.
 pub fn faults_by(
     keys: &[u64; ROOM],
     links: &[u16; LINKS],
     totals: Totals,
+    once: bool,
     card: &[u8],
     vessel: u16,
     row: u64,
 ) -> Broken
     requires { ⌜ Linked (now keys) (now links) ⌝ }
-    ensures { λ r. ⌜ r ≡ faultsBy (now (keys .entry)) (now (links .entry)) totals (now (card .entry)) vessel row ⌝ }
+    ensures { λ r. ⌜ r ≡ faultsBy (now (keys .entry)) (now (links .entry)) totals once (now (card .entry)) vessel row ⌝ }
 {
-    if totals.single & keys::only_defines(row) {
+    if once & keys::only_defines(row) {
         return unbroken();
     }
     let reference = keys::referred_by(card, row);
     let referred = tie_store::look_up(keys, links, reference);
-    let defined = told_defined(keys, links, totals.single, card, row);
+    let defined = told_defined(keys, links, once, card, row);
     judge_column(card, row, vessel, reference, referred, defined, totals)
 }

@@ -1,9 +1,11 @@
 // The ties between the cards of a header: the list of those that are broken.
 pub mod begins;
 pub mod entries;
+pub mod flagging;
 pub mod gather;
 pub mod judging;
 pub mod listing;
+pub mod tags;
 pub mod totals;
 
 use base_refusal::Refusal;
@@ -30,7 +32,7 @@ pub fn check(header: &[u8], list: &mut [u32]) -> Ties
     let mut cards = [0u8; CARDS];
     let checked = header_check::check_noting(header, &mut cards);
     match checked {
-        Checked::Accepted => Ties::Found(listing::list_faults(header, &cards, list)),
+        Checked::Accepted => Ties::Found(listing::list_faults(header, &mut cards, list)),
         Checked::Refused(refusal) => Ties::Refused(refusal),
     }
 }

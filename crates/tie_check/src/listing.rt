@@ -1,6 +1,7 @@
 // All broken ties of a header, in order, in a lent list as far as they fit.
 use crate::begins;
 use crate::entries;
+use crate::flagging;
 use crate::gather;
 use crate::judging;
 use crate::totals;
@@ -22,6 +23,8 @@ ghost use Rattle.header_check.specs.Refusing.{refusalOf};
 ghost use Rattle.header_check.specs.packed.Noted.{Noted};
 ghost use Rattle.tie_check.specs.packed.Gathered.{gathered};
 ghost use Rattle.tie_check.specs.packed.Totals.{totalsOf};
+ghost use Rattle.tie_check.specs.packed.Shared.{flaggedAll};
+ghost use Rattle.tie_check.specs.packed.Asked.{Flagged};
 ghost use Rattle.tie_check.specs.packed.Listed.{cardEntries};
 ghost use Rattle.tie_check.specs.packed.Stored.{storedAll};
 
@@ -40,7 +43,7 @@ fn list_card(
     place: usize,
 ) -> usize
     requires { ⌜ refusalOf (now header) ≡ Checked.Accepted ⌝ }
-    requires { ⌜ Noted (now header) (cardsIn (now header)) (now cards) ⌝ }
+    requires { ⌜ Flagged (now header) (now cards) ⌝ }
     requires { ⌜ (now store ≡ gathered (now header) .keys) × (now links ≡ gathered (now header) .links) ⌝ }
     requires { ⌜ totals ≡ totalsOf (now header) ⌝ }
     requires { ⌜ (place < cardsIn (now header)) × (found ≤ 81 * kinds * place) ⌝ }
@@ -55,6 +58,7 @@ fn list_card(
     let layout = forms::layout_in(note);
     let vessel = keys::vessel_of(card, layout);
     let left = begins::any_left(card, layout, forms::is_sure(note));
+    let once = !forms::is_flagged(note);
     let mut m = found;
     let mut i: usize = 0;
     while i < STEPS {
@@ -62,7 +66,7 @@ fn list_card(
         if row == 0 {
             return m;
         }
-        let broken = judging::faults_by(store, links, totals, card, vessel, row);
+        let broken = judging::faults_by(store, links, totals, once, card, vessel, row);
         let misplaced = begins::step_left(left, card, layout, i);
         m = entries::put_all(
             list,
@@ -88,7 +92,7 @@ fn list_cards(
     totals: Totals,
 ) -> usize
     requires { ⌜ refusalOf (now header) ≡ Checked.Accepted ⌝ }
-    requires { ⌜ Noted (now header) (cardsIn (now header)) (now cards) ⌝ }
+    requires { ⌜ Flagged (now header) (now cards) ⌝ }
     requires { ⌜ (now store ≡ gathered (now header) .keys) × (now links ≡ gathered (now header) .links) ⌝ }
     requires { ⌜ totals ≡ totalsOf (now header) ⌝ }
     ensures list { λ _. ⌜ now (list .exit) ≡ laid entrySize (now (list .entry)) (entries (now (header .entry))) ⌝ }
@@ -104,16 +108,18 @@ fn list_cards(
     found
 }
 
-// The faults of a header that was accepted, with its cards noted.
-pub fn list_faults(header: &[u8], cards: &[u8; CARDS], list: &mut [u32]) -> usize
+// The faults of a header that was accepted, with its cards noted; a card gets a flag where it has a key that is defined twice.
+pub fn list_faults(header: &[u8], cards: &mut [u8; CARDS], list: &mut [u32]) -> usize
     requires { ⌜ refusalOf (now header) ≡ Checked.Accepted ⌝ }
     requires { ⌜ Noted (now header) (cardsIn (now header)) (now cards) ⌝ }
     ensures list { λ _. ⌜ now (list .exit) ≡ laid entrySize (now (list .entry)) (entries (now (header .entry))) ⌝ }
     ensures number { λ r. ⌜ r ≡ length (faults (now (header .entry))) ⌝ }
+    ensures cards { λ _. ⌜ now (cards .exit) ≡ flaggedAll (now (cards .entry)) (gathered (now (header .entry))) ⌝ }
 {
     let mut store = [0u64; ROOM];
     let mut links = [0u16; LINKS];
     gather::gather(header, cards, &mut store, &mut links);
+    flagging::flag_shared(cards, &store, &links);
     let totals = totals::totals_of(header, cards, &store, &links);
     list_cards(list, header, cards, &store, &links, totals)
 }

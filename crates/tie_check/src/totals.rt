@@ -1,5 +1,4 @@
-// What is counted of a header's definitions: the waypoints of each vessel, the points of the variation grid, and whether no key
-// is defined twice.
+// What is counted of a header's definitions: the waypoints of each vessel and the points of the variation grid.
 use format_layout::CARD;
 use format_layout::CARDS;
 use format_layout::names::H0101;
@@ -23,7 +22,6 @@ pub const VESSELS: usize = 11;
 pub struct Totals {
     pub waypoints: [usize; VESSELS],
     pub points: usize,
-    pub single: bool,
 }
 
 fn count_up(waypoints: &mut [usize; VESSELS], vessel: usize)
@@ -80,10 +78,5 @@ pub fn totals_of(
 {
     let waypoints = count_waypoints(keys, tie_store::entries_in(links));
     let points = points_in(header, cards);
-    let single = tie_store::once_each(links);
-    Totals {
-        waypoints,
-        points,
-        single,
-    }
+    Totals { waypoints, points }
 }

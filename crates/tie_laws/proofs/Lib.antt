@@ -1,6 +1,7 @@
 -- Laws of the ties between the cards of a header.
 pub mod Tests
 pub mod Table
+pub mod Vessels
 pub mod Sites
 pub mod Complete
 pub mod Places

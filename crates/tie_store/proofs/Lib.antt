@@ -1,5 +1,5 @@
 pub mod Adding
-pub mod Once
+pub mod Before
 pub mod Only
 pub mod Telling
 pub mod Walking

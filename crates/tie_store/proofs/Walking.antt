@@ -9,7 +9,7 @@ use native.Mathlib.Omega.{arith}
 use borrow.Author.Tests.{eqb-true, eq-eqb, ne-eqb}
 use lib.ListN.{getD}
 use Rattle.base_lists.specs.Count.{count}
-use Rattle.tie_store.specs.Store.{buckets, bucket, countIn, nextAt, headAt, inBucket, last, holds, Linked}
+use Rattle.tie_store.specs.Store.{buckets, bucket, countIn, nextAt, headAt, inBucket, last, holds, On, Linked}
 
 -- any key has a bucket
 pub bucket-below : (key : ℕ) → bucket key < buckets
@@ -69,11 +69,7 @@ module _ {p q : ℕ → Bool} (inside : Inside p q) where
 pub itself : (p : ℕ → Bool) → Inside p p
 itself p = record { outside = λ i e. e }
 
--- a link of a bucket's chain: 0, or one more than an entry of the bucket
-pub record On (keys : List ℕ) (b n link : ℕ) : Type 0 where
-  pub upto : link ≤ n
-  pub is-last : last (inBucket keys b) link ≡ link
-
+-- the last entry of a bucket is on its chain
 on-last : (keys : List ℕ) (b n m : ℕ) → m ≤ n → On keys b n (last (inBucket keys b) m)
 on-last keys b n m h = record {
   upto = omega (arith, last-le (inBucket keys b) m);
@@ -94,6 +90,12 @@ module _ {keys links : List ℕ} (l : Linked keys links) (key : ℕ) where
       × (last (holds keys key) (headAt links (bucket key)) ≡ last (holds keys key) n)
   begins = rw (l .head-last (bucket key) (bucket-below key))
       (on-last keys (bucket key) n n (omega arith), last-inside (holds-inside keys key) n)
+
+  -- or at the one before an entry, and looks for the last before that
+  pub begins-before : (i : ℕ) → i < n → getD keys i 0 ≡ key → On keys (bucket key) n (nextAt links i)
+      × (last (holds keys key) (nextAt links i) ≡ last (holds keys key) i)
+  begins-before i h e = rw (l .next-last i h, e)
+      (on-last keys (bucket key) n i (omega arith), last-inside (holds-inside keys key) i)
 
   -- from an entry it goes to the last one before it
   next-is : (i : ℕ) → On keys (bucket key) n (suc i) → nextAt links i ≡ last (inBucket keys (bucket key)) i

@@ -2,10 +2,10 @@
 -- code packs the definitions of a header. No promise to a caller cites this.
 -- Assumes nothing.
 use mathlib.Core.Path.{_≡_}
-use mathlib.Core.Bool.{Bool, true, cond, _&&_}
+use mathlib.Core.Bool.{Bool, cond}
 use mathlib.Core.List.{List}
 use Prim.Native.Nat.{ℕ, zero, suc, _+_, _*_, _-_, _%_, _≤_, _<_}
-use lib.Dec.{eqb, ltb}
+use lib.Dec.{eqb}
 use lib.ListN.{length, getD, set}
 use Rattle.base_lists.specs.Count.{count}
 use Rattle.header_check.specs.Refusing.{largest}
@@ -82,11 +82,6 @@ unfoldable pub toldOf : List ℕ → List ℕ → ℕ → Told
 toldOf keys links key =
     cond (eqb key 0) nothingTold (record { times = count (holds keys key) (countIn links); tag = onlyTag keys links key })
 
--- by the times of n entries, each was the first with its key
-unfoldable pub onceTo : List ℕ → ℕ → Bool
-onceTo links zero = true
-onceTo links (suc n) = onceTo links n && ltb (timesAt links n) 2
-
 -- the bucket of a key
 unfoldable pub bucket : ℕ → ℕ
 bucket key = key % buckets
@@ -94,6 +89,11 @@ bucket key = key % buckets
 -- the key of an entry is in a bucket
 unfoldable pub inBucket : List ℕ → ℕ → ℕ → Bool
 inBucket keys b i = eqb (bucket (getD keys i 0)) b
+
+-- a link of a bucket's chain: 0, or one more than an entry of the bucket
+pub record On (keys : List ℕ) (b n link : ℕ) : Type 0 where
+  pub upto : link ≤ n
+  pub is-last : last (inBucket keys b) link ≡ link
 
 -- the entries are linked: each bucket's head names its last entry, each entry the one before it in its bucket; and each knows how
 -- many up to and with itself have its key

@@ -6,7 +6,7 @@ ghost use mathlib.Core.Path.{_≡_};
 ghost use Prim.Native.Nat.{_+_, _<_};
 ghost use lib.ListN.{getD};
 ghost use Rattle.base_lists.specs.Count.{count};
-ghost use Rattle.tie_store.specs.Store.{room, linkRoom, buckets, bucket, countIn, holds, last, onceTo, nothingTold, toldOf, keysWith, entryWith, headWith, linksWith, Linked};
+ghost use Rattle.tie_store.specs.Store.{room, linkRoom, buckets, bucket, countIn, tagAt, holds, last, nothingTold, toldOf, On, keysWith, entryWith, headWith, linksWith, Linked};
 
 // As many entries as the largest header can have: a card defines at most four keys.
 pub const ROOM: usize = 4 * CARDS;
@@ -36,6 +36,14 @@ pub struct Told {
     pub tag: u16,
 }
 
+// The tag of an entry.
+pub fn tag_of(links: &[u16; LINKS], i: usize) -> u16
+    requires { ⌜ i < room ⌝ }
+    ensures { λ r. ⌜ r ≡ tagAt (now (links .entry)) i ⌝ }
+{
+    links[TAGS + i]
+}
+
 // The bucket of a key.
 fn bucket_of(key: u64) -> usize
     ensures { λ r. ⌜ (r ≡ bucket key) × (r < buckets) ⌝ }
@@ -63,12 +71,13 @@ pub fn entries_in(links: &[u16; LINKS]) -> usize
     at(links, 0)
 }
 
-// The last entry that has a key, named as in a chain; 0 where none has.
-fn find(keys: &[u64; ROOM], links: &[u16; LINKS], key: u64) -> usize
+// The last entry that has a key, up to one of its chain and named as it is; 0 where none has.
+fn find_from(keys: &[u64; ROOM], links: &[u16; LINKS], key: u64, from: usize) -> usize
     requires { ⌜ Linked (now keys) (now links) ⌝ }
-    ensures { λ r. ⌜ r ≡ last (holds (now (keys .entry)) key) (countIn (now (links .entry))) ⌝ }
+    requires { ⌜ On (now keys) (bucket key) (countIn (now links)) from ⌝ }
+    ensures { λ r. ⌜ r ≡ last (holds (now (keys .entry)) key) from ⌝ }
 {
-    let mut link = at(links, HEADS + bucket_of(key));
+    let mut link = from;
     while link > 0 {
         if keys[link - 1] == key {
             return link;
@@ -76,6 +85,28 @@ fn find(keys: &[u64; ROOM], links: &[u16; LINKS], key: u64) -> usize
         link = at(links, NEXT + (link - 1));
     }
     0
+}
+
+// The last of all.
+fn find(keys: &[u64; ROOM], links: &[u16; LINKS], key: u64) -> usize
+    requires { ⌜ Linked (now keys) (now links) ⌝ }
+    ensures { λ r. ⌜ r ≡ last (holds (now (keys .entry)) key) (countIn (now (links .entry))) ⌝ }
+{
+    let head = at(links, HEADS + bucket_of(key));
+    find_from(keys, links, key, head)
+}
+
+// The last before an entry that has its key. Most have none, and need no walk.
+pub fn find_before(keys: &[u64; ROOM], links: &[u16; LINKS], i: usize) -> usize
+    requires { ⌜ Linked (now keys) (now links) ⌝ }
+    requires { ⌜ i < countIn (now links) ⌝ }
+    ensures { λ r. ⌜ r ≡ last (holds (now (keys .entry)) (getD (now (keys .entry)) i 0)) i ⌝ }
+{
+    if at(links, TIMES + i) < 2 {
+        return 0;
+    }
+    let next = at(links, NEXT + i);
+    find_from(keys, links, keys[i], next)
 }
 
 // How many entries have a key.
@@ -162,19 +193,4 @@ pub fn add(keys: &mut [u64; ROOM], links: &mut [u16; LINKS], key: u64, tag: u16)
     keys[n] = key;
     lay_entry(links, n, tag, times, head);
     lay_head(links, n, b);
-}
-
-// Whether each entry was the first with its key. No early exit, so that it is done several entries at a time.
-pub fn once_each(links: &[u16; LINKS]) -> bool
-    requires { ⌜ countIn (now links) < room + 1 ⌝ }
-    ensures { λ r. ⌜ r ≡ onceTo (now (links .entry)) (countIn (now (links .entry))) ⌝ }
-{
-    let n = entries_in(links);
-    let mut once = true;
-    let mut i: usize = 0;
-    while i < n {
-        once = once & (links[TIMES + i] < 2);
-        i += 1;
-    }
-    once
 }

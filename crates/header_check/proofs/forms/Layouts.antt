@@ -1,4 +1,4 @@
--- A card's note tells its layout and whether the screen is sure of it; one note more, up to all of them; a code by its layout.
+-- A card's note tells its layout and whether the screen is sure of it; one note more, up to all of them.
 use Prim.Native.Nat.{ℕ, zero, suc, _+_, _*_, _≤_, _<_}
 use native.Mathlib.Decide.{ℕ-discrete}
 use native.Mathlib.Numerals.{add-one}
@@ -7,32 +7,19 @@ use mathlib.Core.Path.{_≡_, refl, sym, ap, _∙_}
 use mathlib.Core.Bool.{Bool, true, false}
 use mathlib.Core.List.{List}
 use lib.Dec.{leb}
-use lib.ListN.{length, getD, set, take, length-set}
+use lib.ListN.{length, getD, set, length-set}
 use lib.Seq.{getD-set-same, getD-set-other}
 use borrow.Author.Tests.{le-leb, lt-leb}
 use Rattle.base_lists.specs.Count.{bit}
-use Rattle.format_code.specs.declared.Code.{Code}
-use Rattle.format_code.specs.declared.Code.the-variants.{Read, Passed, Unknown}
-use Rattle.format_code.specs.Codes.{codeOf}
 use Rattle.card_screen.specs.Roles.{sure}
-use Rattle.header_check.specs.forms.Cards.{cardAt, numberOf, unread, layoutOf}
+use Rattle.header_check.specs.forms.Cards.{cardAt, layoutOf}
 use Rattle.header_check.specs.Refusing.{largest}
 use Rattle.header_check.specs.packed.Noted.{cardNote, layoutIn, isSure, Noted, notedTo}
 use Rattle.header_check.proofs.forms.Steps.{layout-small}
 
--- a layout that reads a card is its code
-pub read-code : (s : List ℕ) (k : ℕ) → k ≡ layoutOf s → (k ≡ unread → ⊥) → Read k ≡ codeOf (take 5 s)
-unfolding layoutOf
-read-code s k e n = go (codeOf (take 5 s)) e
-  where
-    go : (c : Code) → k ≡ numberOf c → Read k ≡ c
-    go (Read j) q = ap Read q
-    go Passed q = absurd (n q)
-    go Unknown q = absurd (n q)
-
 -- the note of a card
 module _ (s : List ℕ) (k : ℕ) (e : k ≡ layoutOf s) where
-  pub fits-note : k < 128
+  pub fits-note : k < 64
   fits-note = omega (arith, e, layout-small s)
 
   noted-as : (b : Bool) → sure k s ≡ b → k + 128 * bit b ≡ cardNote s

@@ -3,7 +3,7 @@ use Prim.Native.Nat.{ℕ, _+_, _*_, _-_, _/_, _≤_, _<_}
 use native.Mathlib.Nat.{mul-comm, div-mul-le-self, mul-le-mul-right}
 use native.Mathlib.Omega.{arith}
 use native.Mathlib.Numerals.{add-one}
-use mathlib.Core.Path.{_≡_, refl, ap, _∙_}
+use mathlib.Core.Path.{_≡_, refl, sym, ap, _∙_}
 use mathlib.Core.List.{List}
 use mathlib.Core.Bool.{Bool, true, false, cond}
 use lib.Dec.{ltb}
@@ -16,14 +16,15 @@ use Rattle.format_code.specs.declared.Code.the-variants as code
 use Rattle.format_code.specs.Codes.{codes, placeIn, codeAt, codeOf}
 use Rattle.format_code.proofs.Walk.{wrong-length}
 use Rattle.format_layout.specs.Table.{layouts}
+use Rattle.format_layout.specs.packed.Rows.{layoutCount}
 use Rattle.format_layout.proofs.Places.{layouts-count}
 use Rattle.format_layout.specs.declared.Form.{Form}
 use Rattle.format_layout.specs.declared.Form.the-variants.{Unknown}
-use Rattle.header_check.specs.forms.Cards.{cardAt, byteIn, numberOf, unread, layoutOf}
+use Rattle.header_check.specs.forms.Cards.{cardAt, byteIn, numberOf, unread, codeBy, layoutOf}
 use Rattle.header_check.specs.packed.Notes.{mark, told, noteAt, noteCard, notesTo, formBy}
 
 -- a card too short for a code is not read
-pub too-short : (s : List ℕ) → length s < 5 → unread ≡ layoutOf s
+pub too-short : (s : List ℕ) → length s < 5 → unread + 1 ≡ layoutOf s
 unfolding layoutOf
 too-short s h = ap numberOf (wrong-length (take 5 s) (λ e. omega (arith, length-take 5 s)))
 
@@ -32,14 +33,39 @@ unfolding layoutOf
 coded s k n e q = q ∙ ap numberOf e
 
 -- a layout's number is small
-pub layout-small : (s : List ℕ) → layoutOf s < 128
+pub layout-small : (s : List ℕ) → layoutOf s < 64
 unfolding layoutOf codeOf codeAt
 layout-small s = go (placeIn codes (take 5 s)) _ (ltb (placeIn codes (take 5 s)) (length codes)) refl
   where
-    go : (n : ℕ) (a b : Bool) → ltb n (length layouts) ≡ a → numberOf (cond a (code.Read n) (cond b code.Passed code.Unknown)) < 128
+    go : (n : ℕ) (a b : Bool) → ltb n (length layouts) ≡ a → numberOf (cond a (code.Read n) (cond b code.Passed code.Unknown)) < 64
     go n true b e = omega (arith, ltb-true n (length layouts) e, layouts-count)
     go n false true e = omega arith
     go n false false e = omega arith
+
+-- and is that of a single code
+pub code-back : (s : List ℕ) (k : ℕ) → k ≡ layoutOf s → codeBy k ≡ codeOf (take 5 s)
+unfolding layoutOf codeOf codeAt codeBy
+code-back s k e = ap codeBy e ∙ go (placeIn codes (take 5 s)) _ (ltb (placeIn codes (take 5 s)) (length codes)) refl
+  where
+    go : (n : ℕ) (a b : Bool) → ltb n (length layouts) ≡ a
+        → codeBy (numberOf (cond a (code.Read n) (cond b code.Passed code.Unknown))) ≡ cond a (code.Read n) (cond b code.Passed code.Unknown)
+    go n true b e =
+        let l = ltb-true n (length layouts) e in
+        rw (
+          ne-eqb n unread (λ q. omega (arith, l, layouts-count, q)),
+          ne-eqb n (unread + 1) (λ q. omega (arith, l, layouts-count, q)),
+        )
+    go n false true e = refl
+    go n false false e = refl
+
+pub read-code : (s : List ℕ) (k : ℕ) → k ≡ layoutOf s → k < layoutCount → code.Read k ≡ codeOf (take 5 s)
+unfolding codeBy
+read-code s k e l =
+    sym (rw (
+      ne-eqb k unread (λ q. omega (arith, l, layouts-count, q)),
+      ne-eqb k (unread + 1) (λ q. omega (arith, l, layouts-count, q)),
+    ))
+    ∙ code-back s k e
 
 -- a card seen: it states a line's form, the grid's, or none
 module _ (t s : List ℕ) (k : ℕ) (is : k ≡ layoutOf s) where

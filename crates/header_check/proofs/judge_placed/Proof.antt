@@ -2,6 +2,7 @@
 use denote.Ref.{now}
 use mathlib.Core.Path.{_∙_}
 use Rattle.header_check.proofs.Placed.{unprintable, placed-by, placed-sure, misplaced}
+use Rattle.header_check.proofs.forms.Steps.{code-back}
 use borrow.Author.Needs.{needs}
 use Rattle.header_check.proofs.judge_placed.Statement.{statement}
 use Rattle.header_check.proofs.judge_placed.Tie as tie
@@ -25,9 +26,7 @@ returns-2 c =
     (c .if2 .taken)
 
 code-by-requires : tie.Need-code-by-requires
-code-by-requires c κs =
-    let s = c .before .before .before .before in
-    (s .pre .0, s .pre .1)
+code-by-requires c κs = search needs
 
 judge-by-requires : tie.Need-judge-by-requires
 judge-by-requires c κs = c .before .before .before .before .before .before .pre .0
@@ -38,7 +37,8 @@ returns-3 c =
     let i = k .before .before in
     let s = i .before .before .before in
     c .judge-by .ensures
-    ∙ placed-by (now (s .args .card)) _ (s .pre .0) _ (i .before .first-bad .ensures) (i .if1 .left) _ _ (c .before .if3 .taken) (k .code-by .ensures)
+    ∙ placed-by (now (s .args .card)) _ (s .pre .0) _ (i .before .first-bad .ensures) (i .if1 .left) _ _ (c .before .if3 .taken)
+    (k .code-by .ensures ∙ code-back (now (s .args .card)) _ (s .pre .1))
 
 judge-misplaced-requires : tie.Need-judge-misplaced-requires
 judge-misplaced-requires c κs = search needs
@@ -49,7 +49,8 @@ returns-4 c =
     let i = k .before .before in
     let s = i .before .before .before in
     c .judge-misplaced .ensures
-    ∙ misplaced (now (s .args .card)) (s .args .form) (s .pre .0) _ (i .before .first-bad .ensures) (i .if1 .left) _ _ (c .before .if3 .left) (k .code-by .ensures)
+    ∙ misplaced (now (s .args .card)) (s .args .form) (s .pre .0) _ (i .before .first-bad .ensures) (i .if1 .left) _ _ (c .before .if3 .left)
+    (k .code-by .ensures ∙ code-back (now (s .args .card)) _ (s .pre .1))
 
 pub judge-placed-spec : {M : Type 1} → statement M
 judge-placed-spec =

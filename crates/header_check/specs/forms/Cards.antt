@@ -1,6 +1,8 @@
 -- A header as cards of 80 bytes, counted from 0, and the number of the layout that reads a card.
-use Prim.Native.Nat.{ℕ, _-_, _/_}
+use Prim.Native.Nat.{ℕ, _+_, _-_, _/_}
+use mathlib.Core.Bool.{cond}
 use mathlib.Core.List.{List}
+use lib.Dec.{eqb}
 use lib.ListN.{length, getD, take}
 use Rattle.base_lists.specs.Parts.{part}
 use Rattle.format_code.specs.declared.Code.{Code}
@@ -19,14 +21,18 @@ cardsIn h = length h / 80
 unfoldable pub byteIn : List ℕ → ℕ → ℕ
 byteIn s column = getD s (column - 1) 0
 
--- stands for a code that no layout reads: no layout has this number
+-- stands for a passed code, and one more for an unknown one: no layout has either number
 abbrev pub unread : ℕ
-unread = 99
+unread = 62
 
 abbrev pub numberOf : Code → ℕ
 numberOf (Read k) = k
 numberOf Passed = unread
-numberOf Unknown = unread
+numberOf Unknown = unread + 1
+
+-- the code that such a number stands for
+unfoldable pub codeBy : ℕ → Code
+codeBy k = cond (eqb k unread) Passed (cond (eqb k (unread + 1)) Unknown (Read k))
 
 -- the number of the layout that reads a card
 unfoldable pub layoutOf : List ℕ → ℕ

@@ -1,7 +1,7 @@
 -- What is noted of each card of a header. No promise to a caller cites this.
 use Prim.Native.Nat.{ℕ, zero, suc, _+_, _*_, _%_, _<_}
 use mathlib.Core.Path.{_≡_}
-use mathlib.Core.Bool.{Bool}
+use mathlib.Core.Bool.{Bool, cond}
 use mathlib.Core.List.{List}
 use lib.Dec.{leb}
 use lib.ListN.{length, getD, set}
@@ -16,17 +16,28 @@ cardNote s = layoutOf s + 128 * bit (sure (layoutOf s) s)
 
 -- what a note tells
 abbrev pub layoutIn : ℕ → ℕ
-layoutIn note = note % 128
+layoutIn note = note % 64
 
 abbrev pub isSure : ℕ → Bool
 isSure note = leb 128 note
+
+-- between the two there is room for a flag
+unfoldable pub isFlagged : ℕ → Bool
+isFlagged note = leb 64 (note % 128)
+
+unfoldable pub withFlag : ℕ → ℕ
+withFlag note = cond (isFlagged note) note (note + 64)
 
 -- an array with the notes of the first n cards put into it, as far as it has room; the rest of it is as it was
 unfoldable pub notedTo : List ℕ → List ℕ → ℕ → List ℕ
 notedTo h old zero = old
 notedTo h old (suc c) = set (notedTo h old c) c (cardNote (cardAt h c))
 
--- an array tells the layouts of the first n cards, and of which the screen is sure
+-- an array with a flag at a card
+unfoldable pub flagged : List ℕ → ℕ → List ℕ
+flagged cards c = set cards c (withFlag (getD cards c 0))
+
+-- an array tells the layouts of the first n cards, and of which the screen is sure; a flag does not matter
 pub record Noted (h : List ℕ) (n : ℕ) (cards : List ℕ) : Type 0 where
   pub room : length cards ≡ largest
   pub layouts-are : (c : ℕ) → c < n → layoutIn (getD cards c 0) ≡ layoutOf (cardAt h c)

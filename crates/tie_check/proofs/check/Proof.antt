@@ -30,7 +30,7 @@ returns c =
     let f = c .before .before in
     let e = f .before .before .before in
     let q = sym (e .before .before .check-noting .ensures .0) ∙ e .enum-told .given .1 in
-    rw q (ap Found (f .list-faults .ensures .1), f .list-faults .ensures .0)
+    rw q (ap Found (f .list-faults .ensures .1 .0), f .list-faults .ensures .0)
 
 returns-2 : tie.Need-returns-2
 unfolding answerFor listFor

@@ -1,7 +1,6 @@
 -- What the store tells of a key is what the header says.
 use Prim.Native.Nat.{ℕ, _*_, _≤_}
 use native.Mathlib.Decide.{ℕ-discrete}
-use native.Mathlib.Omega.{arith}
 use mathlib.Core.Path.{_≡_, refl, sym, ap}
 use mathlib.Core.Bool.{Bool, true, false, _&&_}
 use mathlib.Core.List.{List}
@@ -11,13 +10,12 @@ use Rattle.header_check.specs.forms.Cards.{cardsIn}
 use Rattle.header_check.specs.Refusing.{largest}
 use Rattle.tie_rules.specs.Keys.{contradict}
 use Rattle.base_lists.specs.Count.{count}
-use Rattle.tie_store.specs.Store.{countIn, tagAt, holds, onceTo, nothingTold, toldOf}
-use Rattle.tie_store.proofs.Once.{at-most-once}
+use Rattle.tie_store.specs.Store.{countIn, tagAt, holds, nothingTold, toldOf}
 use Rattle.tie_store.proofs.Only.{only-passes}
-use Rattle.tie_check.specs.packed.Numbers.{passing}
+use Rattle.tie_check.specs.packed.Numbers.{vesselTold, passing}
 use Rattle.tie_check.specs.packed.Gathered.{gathered, entriesPassing}
 use Rattle.tie_check.specs.packed.Asked.{isNumber, isApart, timesOf, onlyApart}
-use Rattle.tie_check.proofs.gather.Growing.{all-linked, all-pass}
+use Rattle.tie_check.proofs.gather.Growing.{all-pass}
 
 -- a card without a vessel digit contradicts nothing
 says-nothing : (vessel : ℕ) → contradict vessel 10 ≡ false
@@ -42,16 +40,16 @@ module _ (h : List ℕ) (few : cardsIn h ≤ largest) where
 
   -- those of another vessel
   entries-apart : (k vessel : ℕ) → (k ≡ 0 → ⊥)
-      → count (λ i. holds keys k i && contradict vessel (tagAt links i)) (countIn links) ≡ passing (isApart k vessel) h (80 * cardsIn h)
+      → count (λ i. holds keys k i && contradict vessel (vesselTold (tagAt links i))) (countIn links) ≡ passing (isApart k vessel) h (80 * cardsIn h)
   unfolding entriesPassing holds
   entries-apart k vessel e =
-      all-pass h few (isApart k vessel) (λ t. ap (λ b. b && contradict vessel t) (ne-eqb 0 k (λ q. e (sym q))))
+      all-pass h few (isApart k vessel) (λ t. ap (λ b. b && contradict vessel (vesselTold t)) (ne-eqb 0 k (λ q. e (sym q))))
 
-  no-times : (k : ℕ) → k ≡ 0 → timesOf h k ≡ 0
+  pub no-times : (k : ℕ) → k ≡ 0 → timesOf h k ≡ 0
   unfolding timesOf
   no-times k e = rw (eq-eqb k 0 e)
 
-  some-times : (k : ℕ) → (k ≡ 0 → ⊥) → timesOf h k ≡ count (holds keys k) (countIn links)
+  pub some-times : (k : ℕ) → (k ≡ 0 → ⊥) → timesOf h k ≡ count (holds keys k) (countIn links)
   unfolding timesOf
   some-times k e = rw (ne-eqb k 0 e) (sym (entries-with k e))
 
@@ -62,17 +60,10 @@ module _ (h : List ℕ) (few : cardsIn h ≤ largest) where
     | no e ↦ rw (ne-eqb k 0 e) (sym (some-times k e))
   ]
 
-  pub told-apart : (k vessel : ℕ) → contradict vessel (toldOf keys links k .tag) ≡ onlyApart h k vessel
+  pub told-apart : (k vessel : ℕ) → contradict vessel (vesselTold (toldOf keys links k .tag)) ≡ onlyApart h k vessel
   unfolding toldOf nothingTold onlyApart
   told-apart k vessel = elim (ℕ-discrete k 0) [
     | yes e ↦ rw (eq-eqb k 0 e) (says-nothing vessel)
     | no e ↦ rw (ne-eqb k 0 e, ← entries-with k e, ← entries-apart k vessel e)
-        (only-passes keys links k (contradict vessel) (says-nothing vessel))
-  ]
-
-  -- where every entry was the first with its key, no key is defined twice
-  pub defined-once : onceTo links (countIn links) ≡ true → (k : ℕ) → timesOf h k ≤ 1
-  defined-once once k = elim (ℕ-discrete k 0) [
-    | yes e ↦ omega (arith, no-times k e)
-    | no e ↦ omega (arith, some-times k e, at-most-once keys links (all-linked h few) once k)
+        (only-passes keys links k (λ t. contradict vessel (vesselTold t)) (says-nothing vessel))
   ]

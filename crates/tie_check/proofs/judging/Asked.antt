@@ -18,11 +18,12 @@ use Rattle.tie_rules.specs.packed.Numbers.{packed, within}
 use Rattle.tie_rules.specs.Offered.{borne, pairFits}
 use Rattle.tie_rules.proofs.packing.Told.{borne-packed, packed-tells, some-borne}
 use Rattle.tie_rules.specs.Ties.{defines}
-use Rattle.tie_rules.specs.Keys.{isNone, classAt, keyAt, holdsKey, vesselOf, contradict}
+use Rattle.tie_rules.specs.Keys.{isNone, classAt, keyAt, holdsKey}
 use Rattle.tie_rules.specs.packed.Rows.{packedBy}
 use Rattle.tie_rules.proofs.key_laws.Found.{stands, found-stands}
 use Rattle.tie_rules.proofs.key_laws.Told.{some-number, packed-at, defines-packed}
-use Rattle.tie_check.specs.packed.Numbers.{numberOn, numberAt, passing}
+use Rattle.tie_check.specs.packed.Numbers.{tagFor, numberOn, numberAt, passing}
+use Rattle.tie_check.proofs.gather.Tags.{vessel-told}
 use Rattle.tie_rules.specs.packed.Numbers.{waypointsFrom, vesselIn}
 use Rattle.tie_rules.proofs.packing.Vessels.{below-waypoints, past-waypoints, a-waypoint}
 use Rattle.tie_check.specs.packed.Asked.{isNumber, isApart, isWaypoint}
@@ -120,8 +121,8 @@ module _ (h : List ℕ) (printed : (c : ℕ) → c < cardsIn h → printable (ca
     pub contradictions-asked : (vessel : ℕ) → contradictionsOf h class key vessel ≡ passing (isApart k vessel) h (80 * cardsIn h)
     unfolding contradictionsOf places passing cardOf
     contradictions-asked vessel =
-        count-same _ (λ p. eqb (numberAt h p) k && contradict vessel (vesselOf (cardAt h (p / 80)))) (80 * cardsIn h)
-        (λ p l. ap (λ t. t && contradict vessel (vesselOf (cardAt h (p / 80)))) (defined-number p l))
+        count-same _ (λ p. isApart k vessel (numberAt h p) (tagFor (cardAt h (p / 80)) (p / 80))) (80 * cardsIn h)
+        (λ p l. rw (defined-number p l, vessel-told (cardAt h (p / 80)) (p / 80)))
 
   -- the waypoints of a vessel
   pub waypoints-asked : (d : ℕ) → d < 10 → waypointsOf h (d ∷ []) ≡ passing (isWaypoint d) h (80 * cardsIn h)

@@ -17,6 +17,7 @@ use Rattle.tie_rules.specs.Ties.{statesOwn}
 use Rattle.tie_rules.proofs.key_laws.Told.{packed-at, holds-packed}
 use Rattle.tie_rules.specs.Definitions.{definitionsOf, contradictionsOf}
 use Rattle.tie_rules.specs.Faults.{definitionsAt, undefined, redefined, ambiguous, contradicted}
+use Rattle.tie_check.specs.packed.Numbers.{vesselTold}
 use Rattle.tie_check.specs.packed.Asked.{timesOf, onlyApart, contradictedBy}
 use Rattle.tie_check.proofs.judging.Asked.{definitions-asked, contradictions-asked}
 use Rattle.tie_check.proofs.judging.Stated.{shape}
@@ -36,7 +37,7 @@ unfolding contradictedBy
 against-own s row vessel tag column m own is e at q =
     rw (← is, e, ← at) (not-own (wholeIn column column s) m vessel (shape column column s m q))
 
-pub against-other : (s : List ℕ) (row vessel tag : ℕ) (own r : Bool) → own ≡ ownIn row → own ≡ false → r ≡ contradict vessel tag
+pub against-other : (s : List ℕ) (row vessel tag : ℕ) (own r : Bool) → own ≡ ownIn row → own ≡ false → r ≡ contradict vessel (vesselTold tag)
     → r ≡ contradictedBy s row vessel tag
 unfolding contradictedBy
 against-other s row vessel tag own r is e h = rw (← is, e) h
@@ -94,7 +95,7 @@ module _ (h : List ℕ) (printed : (c : ℕ) → c < cardsIn h → printable (ca
   ])
 
   pub contradicted-by : (row tag : ℕ) → ownIn row ≡ statesOwn (layoutOf s) column → columnIn row ≡ column
-      → contradict (vesselOf s) tag ≡ onlyApart h (number refers) (vesselOf s)
+      → contradict (vesselOf s) (vesselTold tag) ≡ onlyApart h (number refers) (vesselOf s)
       → contradictedBy s row (vesselOf s) tag ≡ contradicted h s column
   unfolding contradicted contradictedBy definitionsAt
   contradicted-by row tag own at apart =

@@ -4,7 +4,7 @@ use native.Mathlib.Numerals.{add-one}
 use native.Mathlib.Decide.{decLt}
 use native.Mathlib.Omega.{arith}
 use mathlib.Core.Path.{_≡_, sym, ap, _∙_}
-use mathlib.Core.Bool.{Bool}
+use mathlib.Core.Bool.{Bool, true}
 use mathlib.Core.List.{List, [], _++_, flatMap, append-nil}
 use lib.ListN.{length, getD, length-append}
 use Rattle.base_lists.specs.Parts.{upTo}
@@ -21,10 +21,11 @@ use Rattle.tie_rules.proofs.keys.Table.{column-told}
 use Rattle.tie_rules.proofs.key_laws.Told.{vessel-at}
 use Rattle.tie_check.specs.declared.entries.Broken.{Broken}
 use Rattle.tie_check.specs.declared.totals.Totals.{Totals}
+use Rattle.tie_check.specs.packed.Numbers.{numberOn}
 use Rattle.tie_check.specs.packed.Gathered.{gathered}
 use Rattle.tie_check.specs.packed.Totals.{totalsOf}
 use Rattle.tie_check.specs.packed.Kinds.{brokenFor}
-use Rattle.tie_check.specs.packed.Asked.{faultsBy}
+use Rattle.tie_check.specs.packed.Asked.{timesOf, faultsBy}
 use Rattle.tie_check.specs.packed.Stored.{storedAll, entriesFor}
 use Rattle.tie_check.specs.packed.Listed.{stepEntries}
 use Rattle.tie_check.specs.packed.Begins.{walked}
@@ -79,15 +80,17 @@ module _ (h : List ℕ) (accepted : refusalOf h ≡ Accepted) (c : ℕ) (below :
   unfolding columnIn
   step-none z = sym step-column ∙ ap columnIn z
 
-  pub step-gives : (s keys links : List ℕ) (totals : Totals) (vessel column : ℕ) (b : Broken) (m : Bool) → s ≡ cardAt h c
+  pub step-gives : (s keys links : List ℕ) (totals : Totals) (once : Bool) (vessel column : ℕ) (b : Broken) (m : Bool)
+      → (once ≡ true → (i : ℕ) → i ≤ 80 → timesOf h (numberOn (cardAt h c) i) ≤ 1) → s ≡ cardAt h c
       → vessel ≡ vesselBy layout s → keys ≡ gathered h .keys → links ≡ gathered h .links → totals ≡ totalsOf h
-      → column ≡ columnIn row → b ≡ faultsBy keys links totals s vessel row
+      → column ≡ columnIn row → b ≡ faultsBy keys links totals once s vessel row
       → m ≡ misplacedAmong (fieldsOf layout) s (getD (walked left layout) i 0)
       → entriesFor b m (c + 1) column vessel ≡ stepEntries h c left i
   unfolding stepEntries misplaced
-  step-gives s keys links totals vessel column b m card v p q r o w x =
+  step-gives s keys links totals once vessel column b m unique card v p q r o w x =
       let own : vessel ≡ vesselOf (cardAt h c) = v ∙ rw (card, is) (vessel-at (cardAt h c)) in
       let e : b ≡ brokenFor h (cardAt h c) at = w ∙ rw (p, q, r, card, own, row-there)
-      (judged h (few-cards h accepted) (printed h accepted) (cardAt h c) (printed h accepted c below) at low) in
+      (judged h (few-cards h accepted) (printed h accepted) (cardAt h c) (printed h accepted c below) at low once
+      (λ t. unique t at (omega (arith, walked-below left (layoutOf (cardAt h c)) i)))) in
       let y : m ≡ misplaced (cardAt h c) at = x ∙ rw (card, is) in
       rw (e, y, o ∙ step-column, own) (of-column h c at)

@@ -1,5 +1,4 @@
--- What is counted of the gathered definitions: the waypoints of each vessel, the points of the variation grid, and whether no key
--- is defined twice.
+-- What is counted of the gathered definitions: the waypoints of each vessel and the points of the variation grid.
 use Prim.Native.Nat.{ℕ, zero, suc, _+_}
 use mathlib.Core.List.{List}
 use lib.Dec.{eqb}
@@ -8,7 +7,7 @@ use Rattle.base_lists.specs.Count.{count}
 use Rattle.format_layout.specs.Names.{H0101}
 use Rattle.header_check.specs.forms.Cards.{cardAt, cardsIn, layoutOf}
 use Rattle.tie_rules.specs.packed.Numbers.{vesselIn}
-use Rattle.tie_store.specs.Store.{countIn, onceTo}
+use Rattle.tie_store.specs.Store.{countIn}
 use Rattle.tie_check.specs.declared.totals.Totals.{Totals}
 use Rattle.tie_check.specs.packed.Gathered.{gathered}
 
@@ -30,5 +29,4 @@ unfoldable pub totalsOf : List ℕ → Totals
 totalsOf h = record {
   waypoints = waypointsTo (gathered h .keys) (countIn (gathered h .links));
   points = pointsTo h (cardsIn h);
-  single = onceTo (gathered h .links) (countIn (gathered h .links));
 }

@@ -8,7 +8,7 @@ abbrev Inv-loop : tie.InvT-loop
 Inv-loop layout class next₀ next = next₀ ≤ next
 
 abbrev μ-loop : tie.MeasureT-loop
-μ-loop layout class next₀ next = 99 - next
+μ-loop layout class next₀ next = 62 - next
 
 loop-holds : tie.Need-loop-holds Inv-loop μ-loop
 loop-holds c = search needs

@@ -7,10 +7,10 @@ use Rattle.crew_fault.proofs.names.push_definers.Statement.{statement}
 use Rattle.crew_fault.proofs.names.push_definers.Tie as tie
 
 abbrev Inv-loop : tie.InvT-loop
-Inv-loop out₀ n key end₀ first₀ layout₀ out end first layout = (layout ≤ 99) × (length out ≡ length out₀)
+Inv-loop out₀ n key end₀ first₀ layout₀ out end first layout = (layout ≤ 62) × (length out ≡ length out₀)
 
 abbrev μ-loop : tie.MeasureT-loop
-μ-loop out₀ n key end₀ first₀ layout₀ out end first layout = 99 - layout
+μ-loop out₀ n key end₀ first₀ layout₀ out end first layout = 62 - layout
 
 loop-holds : tie.Need-loop-holds Inv-loop μ-loop
 loop-holds c = search needs

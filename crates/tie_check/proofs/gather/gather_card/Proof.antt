@@ -11,14 +11,11 @@ use Rattle.tie_check.proofs.gather.gather_card.Statement.{statement}
 use Rattle.tie_check.proofs.gather.gather_card.Tie as tie
 
 abbrev Inv-loop : tie.InvT-loop
-Inv-loop keys₀ links₀ card layout vessel slot₀ keys links slot =
-    (slot ≤ 5) × (keys ≡ withSlots (store keys₀ links₀) card slot .keys) × (links ≡ withSlots (store keys₀ links₀) card slot .links)
+Inv-loop keys₀ links₀ card layout tag slot₀ keys links slot =
+    (slot ≤ 5) × (keys ≡ withSlots (store keys₀ links₀) card tag slot .keys) × (links ≡ withSlots (store keys₀ links₀) card tag slot .links)
 
 abbrev μ-loop : tie.MeasureT-loop
-μ-loop keys₀ links₀ card layout vessel slot₀ keys links slot = 5 - slot
-
-vessel-of-requires : tie.Need-vessel-of-requires Inv-loop μ-loop
-vessel-of-requires c κs = search needs
+μ-loop keys₀ links₀ card layout tag slot₀ keys links slot = 5 - slot
 
 loop-holds : tie.Need-loop-holds Inv-loop μ-loop
 unfolding withSlots
@@ -34,9 +31,9 @@ returns : tie.Need-returns Inv-loop μ-loop
 returns c =
     let r = c .before in
     let b = r .before .before .loop in
-    let s = r .before .before .before .before .before in
+    let s = r .before .before .before .before in
     let t = store (now (s .args .keys)) (now (s .args .links)) in
-    let e = slot-rest t (now (s .args .card)) (b .slot) _ (s .args .layout) (s .pre .0) (r .tie-of .ensures) (c .if1 .taken) (b .inv .0) in
+    let e = slot-rest t (now (s .args .card)) (s .args .tag) (b .slot) _ (s .args .layout) (s .pre .0) (r .tie-of .ensures) (c .if1 .taken) (b .inv .0) in
     (b .inv .1 ∙ ap (λ (x : Store). x .keys) e, b .inv .2 ∙ ap (λ (x : Store). x .links) e)
 
 defined-by-requires : tie.Need-defined-by-requires Inv-loop μ-loop
@@ -46,15 +43,15 @@ gather-number-requires : tie.Need-gather-number-requires Inv-loop μ-loop
 gather-number-requires c κs =
     let l = c .before .before .before .before .before in
     let b = l .before .loop in
-    let s = l .before .before .before .before in
+    let s = l .before .before .before in
     let t = store (now (s .args .keys)) (now (s .args .links)) in
     let n = countIn (now (s .args .links)) in
     let k = now (s .args .card) in
     let w : Well t n = record { linked = s .pre .1 .0; few = omega arith } in
-    let u = slots-well t n w (s .pre .1 .1) k (b .slot) (b .inv .0) in
+    let u = slots-well t n w (s .pre .1 .1) k (s .args .tag) (b .slot) (b .inv .0) in
     let r = c .before .before .before .before in
-    let e = number-is t k (b .slot) _ (s .args .layout) (s .pre .0) (r .tie-of .ensures) _ (c .defined-by .ensures) in
-    rw (b .inv .1, b .inv .2) (u .linked, slot-room t n w (s .pre .1 .1) k (b .slot) (l .loop-test .taken) _ e)
+    let e = number-is t k (s .args .tag) (b .slot) _ (s .args .layout) (s .pre .0) (r .tie-of .ensures) _ (c .defined-by .ensures) in
+    rw (b .inv .1, b .inv .2) (u .linked, slot-room t n w (s .pre .1 .1) k (s .args .tag) (b .slot) (l .loop-test .taken) _ e)
 
 add-slot : tie.Need-add-slot Inv-loop μ-loop
 add-slot c = search needs
@@ -67,22 +64,21 @@ loop-again c =
     let d = c .before in
     let r = d .before .before .before .before in
     let b = r .before .before .loop in
-    let v = r .before .before .before in
-    let s = v .before .before in
+    let s = r .before .before .before .before in
     let t = store (now (s .args .keys)) (now (s .args .links)) in
-    let e = slot-more t (now (s .args .card)) (b .slot) _ (s .args .layout) (s .pre .0) (r .tie-of .ensures) _ _ _ _ _ _
-    (d .defined-by .ensures) (v .vessel-of .ensures) (b .inv .1) (b .inv .2) (c .gather-number .ensures .0)
+    let e = slot-more t (now (s .args .card)) (s .args .tag) (b .slot) _ (s .args .layout) (s .pre .0) (r .tie-of .ensures) _ _ _ _ _
+    (d .defined-by .ensures) (b .inv .1) (b .inv .2) (c .gather-number .ensures .0)
     (c .gather-number .ensures .1) in
     (omega arith, e .0, e .1)
 
 returns-2 : tie.Need-returns-2 Inv-loop μ-loop
 returns-2 c =
     let b = c .before .loop in
-    let s = c .before .before .before .before in
+    let s = c .before .before .before in
     let t = store (now (s .args .keys)) (now (s .args .links)) in
     let q : b .slot ≡ 5 = omega (arith, b .inv .0) in (
-      b .inv .1 ∙ ap (λ i. withSlots t (now (s .args .card)) i .keys) q,
-      b .inv .2 ∙ ap (λ i. withSlots t (now (s .args .card)) i .links) q,
+      b .inv .1 ∙ ap (λ i. withSlots t (now (s .args .card)) (s .args .tag) i .keys) q,
+      b .inv .2 ∙ ap (λ i. withSlots t (now (s .args .card)) (s .args .tag) i .links) q,
     )
 
 pub gather-card-spec : {M : Type 1} → statement M
@@ -91,7 +87,6 @@ gather-card-spec =
     (tie.spec
     Inv-loop
     μ-loop
-    vessel-of-requires
     loop-holds
     add-tie-of
     tie-of-requires

@@ -15,10 +15,10 @@ unbroken-requires c κs = search needs
 returns : tie.Need-returns
 returns c =
     let i = c .before in
-    let o = i .before .before in
+    let o = i .before in
     let s = o .before .before in
     c .unbroken .ensures
-    ∙ passed-over (now (s .args .keys)) (now (s .args .links)) (s .args .totals) (now (s .args .card)) (s .args .vessel) (s .args .row)
+    ∙ passed-over (now (s .args .keys)) (now (s .args .links)) (s .args .totals) (s .args .once) (now (s .args .card)) (s .args .vessel) (s .args .row)
     _ (o .only-defines .ensures) (i .if1 .taken)
 
 referred-by-requires : tie.Need-referred-by-requires
@@ -39,10 +39,10 @@ returns-2 c =
     let k = d .before in
     let r = k .before in
     let i = r .before in
-    let o = i .before .before in
+    let o = i .before in
     let s = o .before .before in
     c .judge-column .ensures
-    ∙ looked-at (now (s .args .keys)) (now (s .args .links)) (s .args .totals) (now (s .args .card)) (s .args .vessel) (s .args .row)
+    ∙ looked-at (now (s .args .keys)) (now (s .args .links)) (s .args .totals) (s .args .once) (now (s .args .card)) (s .args .vessel) (s .args .row)
     _ _ _ _ (o .only-defines .ensures) (i .if1 .left) (r .referred-by .ensures) (k .look-up .ensures) (d .told-defined .ensures)
 
 pub faults-by-spec : {M : Type 1} → statement M

@@ -1,12 +1,14 @@
 -- `tie_check::listing::list_card` meets its contract.
 use Prim.Native.Nat.{ℕ, _+_, _*_, _-_, _≤_, _<_}
 use mathlib.Core.Path.{_≡_, refl, sym, ap, ap₂, _∙_}
+use mathlib.Core.Bool.{true, not}
 use mathlib.Core.List.{List, flatMap}
 use lib.ListN.{length}
 use denote.Ref.{now}
 use native.Mathlib.Nat.{add-zero}
 use native.Mathlib.Omega.{arith}
 use borrow.Author.Needs.{needs}
+use borrow.Author.Tests.{not-true}
 use Rattle.base_lists.specs.Parts.{upTo}
 use Rattle.format_layout.specs.Layouts.{fieldsOf}
 use Rattle.card_screen.specs.Roles.{sure}
@@ -15,6 +17,8 @@ use Rattle.header_check.specs.Refusing.{largest}
 use Rattle.header_check.proofs.forms.Steps.{card-part, card-ends, card-whole}
 use Rattle.header_laws.proofs.Accepted.{few-cards}
 use Rattle.tie_rules.specs.Faults.{kinds}
+use Rattle.tie_check.specs.packed.Numbers.{numberOn}
+use Rattle.tie_check.specs.packed.Asked.{timesOf}
 use Rattle.tie_check.specs.packed.Stored.{storedAll}
 use Rattle.tie_check.specs.packed.Listed.{stepEntries}
 use Rattle.tie_check.proofs.gather.Growing.{all-linked}
@@ -27,12 +31,12 @@ use Rattle.tie_check.proofs.listing.list_card.Statement.{statement}
 use Rattle.tie_check.proofs.listing.list_card.Tie as tie
 
 abbrev Inv-loop : tie.InvT-loop
-Inv-loop list₀ found header cards store links totals place from card note layout vessel left m₀ i₀ list m i =
+Inv-loop list₀ found header cards store links totals place from card note layout vessel left once m₀ i₀ list m i =
     (i ≤ 81) × (m ≤ found + kinds * i) × (list ≡ storedAll list₀ found (flatMap (stepEntries header place left) (upTo i)))
     × (m ≡ found + length (flatMap (stepEntries header place left) (upTo i)))
 
 abbrev μ-loop : tie.MeasureT-loop
-μ-loop list₀ found header cards store links totals place from card note layout vessel left m₀ i₀ list m i = 81 - i
+μ-loop list₀ found header cards store links totals place from card note layout vessel left once m₀ i₀ list m i = 81 - i
 
 -- the card is one of the header's, of which there are not too many
 below : (s : tie.Start Inv-loop μ-loop) → s .args .place < cardsIn (now (s .args .header))
@@ -65,7 +69,7 @@ part-card-end c = omega (arith, within (c .before .before))
 element-copy-out-note : tie.Need-element-copy-out-note Inv-loop μ-loop
 element-copy-out-note c =
     let s = c .before .before .before in
-    omega (arith, below s, few s, s .pre .1 .0 .room)
+    omega (arith, below s, few s, s .pre .1 .0 .noted .room)
 
 layout-in-requires : tie.Need-layout-in-requires Inv-loop μ-loop
 layout-in-requires c κs = search needs
@@ -74,7 +78,7 @@ layout-is : (y : tie.After-layout-in Inv-loop μ-loop)
     → y .layout-in .result ≡ layoutOf (cardAt (now (y .before .before .before .before .before .args .header)) (y .before .before .before .before .before .args .place))
 layout-is y =
     let s = y .before .before .before .before .before in
-    y .layout-in .ensures ∙ s .pre .1 .0 .layouts-are (s .args .place) (below s)
+    y .layout-in .ensures ∙ s .pre .1 .0 .noted .layouts-are (s .args .place) (below s)
 
 vessel-of-requires : tie.Need-vessel-of-requires Inv-loop μ-loop
 vessel-of-requires c κs = search needs
@@ -90,8 +94,11 @@ any-left-requires c κs =
     let h = now (s .args .header) in
     let e = card-part h (s .args .place) in (
       card-whole h (s .args .place) (below s),
-      c .is-sure .ensures ∙ s .pre .1 .0 .sures-are (s .args .place) (below s) ∙ ap₂ sure (sym (layout-is y)) (sym e),
+      c .is-sure .ensures ∙ s .pre .1 .0 .noted .sures-are (s .args .place) (below s) ∙ ap₂ sure (sym (layout-is y)) (sym e),
     )
+
+is-flagged-requires : tie.Need-is-flagged-requires Inv-loop μ-loop
+is-flagged-requires c κs = search needs
 
 loop-holds : tie.Need-loop-holds Inv-loop μ-loop
 unfolding upTo flatMap storedAll
@@ -115,11 +122,18 @@ left-is a =
     a .any-left .ensures
     ∙ ap₂ (λ (x : List ℕ) (y : ℕ). anyLeft x (fieldsOf y)) (card-part h (s .args .place)) (layout-is (a .before .before .before))
 
+-- a card without a flag has no key that is defined twice
+once-told : (f : tie.After-is-flagged Inv-loop μ-loop) → not (f .is-flagged .result) ≡ true → (i : ℕ) → i ≤ 80
+    → timesOf (now (f .before .before .before .before .before .before .before .before .before .args .header)) (numberOn (cardAt (now (f .before .before .before .before .before .before .before .before .before .args .header)) (f .before .before .before .before .before .before .before .before .before .args .place)) i) ≤ 1
+once-told f e i m =
+    let s = f .before .before .before .before .before .before .before .before .before in
+    s .pre .1 .0 .once (s .args .place) (below s) (sym (f .is-flagged .ensures) ∙ not-true (f .is-flagged .result) e) i m
+
 returns : tie.Need-returns Inv-loop μ-loop
 returns c =
     let t = c .before in
     let b = t .before .before .loop in
-    let a = t .before .before .before in
+    let a = t .before .before .before .before in
     let s = a .before .before .before .before .before .before .before .before in
     let h = now (s .args .header) in
     let p = s .args .place in
@@ -135,7 +149,7 @@ returns c =
 
 faults-by-requires : tie.Need-faults-by-requires Inv-loop μ-loop
 faults-by-requires c κs =
-    let s = c .before .before .before .before .before .before .before .before .before .before .before .before in
+    let s = c .before .before .before .before .before .before .before .before .before .before .before .before .before in
     let g = s .pre .1 .1 .0 in
     rw (g .0, g .1) (all-linked (now (s .args .header)) (few s))
 
@@ -143,20 +157,20 @@ step-left-requires : tie.Need-step-left-requires Inv-loop μ-loop
 unfolding cardsIn
 step-left-requires c κs =
     let t = c .before .before in
-    let a = t .before .before .before in
+    let a = t .before .before .before .before in
     let s = a .before .before .before .before .before .before .before .before in
     (card-whole (now (s .args .header)) (s .args .place) (below s), a .any-left .ensures)
 
 add-put-all : tie.Need-add-put-all Inv-loop μ-loop
 add-put-all c =
     let t = c .before .before .before .before in
-    let s = t .before .before .before .before .before .before .before .before .before .before .before in
+    let s = t .before .before .before .before .before .before .before .before .before .before .before .before in
     omega (arith, below s, few s)
 
 cast-put-all : tie.Need-cast-put-all Inv-loop μ-loop
 cast-put-all c =
     let t = c .before .before .before .before in
-    let s = t .before .before .before .before .before .before .before .before .before .before .before in
+    let s = t .before .before .before .before .before .before .before .before .before .before .before .before in
     record { fits = omega (arith, below s, few s) }
 
 column-of-requires : tie.Need-column-of-requires Inv-loop μ-loop
@@ -166,7 +180,7 @@ cast-put-all-2 : tie.Need-cast-put-all-2 Inv-loop μ-loop
 cast-put-all-2 c =
     let t = c .before .before .before .before .before in
     let b = t .before .before .loop in
-    let a = t .before .before .before in
+    let a = t .before .before .before .before in
     let s = a .before .before .before .before .before .before .before .before in
     let h = now (s .args .header) in
     let p = s .args .place in
@@ -181,7 +195,7 @@ put-all-requires : tie.Need-put-all-requires Inv-loop μ-loop
 put-all-requires c κs =
     let t = c .before .before .before .before .before in
     let b = t .before .before .loop in
-    let s = t .before .before .before .before .before .before .before .before .before .before .before in
+    let s = t .before .before .before .before .before .before .before .before .before .before .before .before in
     omega (arith, b .inv .0, b .inv .1, below s, s .pre .1 .1 .1 .1 .1, few s)
 
 add-i : tie.Need-add-i Inv-loop μ-loop
@@ -198,15 +212,15 @@ loop-again c =
     let f = m .before in
     let t = f .before .before in
     let b = t .before .before .loop in
-    let a = t .before .before .before in
+    let a = t .before .before .before .before in
     let v = a .before .before in
     let s = v .before .before .before .before .before .before in
     let h = now (s .args .header) in
     let n = layout-is (a .before .before .before) in
     let g = s .pre .1 .1 in
     let l = a .any-left .result in
-    let e = step-gives h (s .pre .0) (s .args .place) (below s) l _ (b .i) _ n (t .step-of .ensures) _ _ _ _ _ _ _ _
-    (card-part h (s .args .place)) (v .vessel-of .ensures) (g .0 .0) (g .0 .1) (g .1 .0) (k .column-of .ensures) (f .faults-by .ensures)
+    let e = step-gives h (s .pre .0) (s .args .place) (below s) l _ (b .i) _ n (t .step-of .ensures) _ _ _ _ _ _ _ _ _
+    (once-told (t .before .before .before)) (card-part h (s .args .place)) (v .vessel-of .ensures) (g .0 .0) (g .0 .1) (g .1 .0) (k .column-of .ensures) (f .faults-by .ensures)
     (m .step-left .ensures) in
     let o = p .put-all .ensures in
     let r = run-more (stepEntries h (s .args .place) l) _ _ _ _ _ _ (b .i) (b .inv .2) (b .inv .3)
@@ -221,7 +235,7 @@ same-length-2 c =
 returns-2 : tie.Need-returns-2 Inv-loop μ-loop
 returns-2 c =
     let b = c .before .loop in
-    let a = c .before .before in
+    let a = c .before .before .before in
     let s = a .before .before .before .before .before .before .before .before in
     let h = now (s .args .header) in
     let g = stepEntries h (s .args .place) (a .any-left .result) in
@@ -247,6 +261,7 @@ list-card-spec =
     vessel-of-requires
     is-sure-requires
     any-left-requires
+    is-flagged-requires
     loop-holds
     step-of-requires
     same-length

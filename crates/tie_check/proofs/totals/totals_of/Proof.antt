@@ -21,20 +21,13 @@ count-waypoints-requires c κs =
 points-in-requires : tie.Need-points-in-requires
 points-in-requires c κs = search needs
 
-once-each-requires : tie.Need-once-each-requires
-once-each-requires c κs =
-    let s = c .before .before .before .before in
-    let l = all-linked (now (s .args .header)) (s .pre .0) in
-    omega (arith, ap countIn (s .pre .1 .1 .1), l .within)
-
 returns : tie.Need-returns
 unfolding totalsOf
 returns c =
-    let p = c .before in
-    let w = p .before in
+    let w = c .before in
     let n = w .before in
     let s = n .before .before in
-    rw (c .once-each .ensures, p .points-in .ensures, w .count-waypoints .ensures, n .entries-in .ensures, s .pre .1 .1 .0, s .pre .1 .1 .1)
+    rw (c .points-in .ensures, w .count-waypoints .ensures, n .entries-in .ensures, s .pre .1 .1 .0, s .pre .1 .1 .1)
 
 pub totals-of-spec : {M : Type 1} → statement M
 totals-of-spec =
@@ -43,5 +36,4 @@ totals-of-spec =
     entries-in-requires
     count-waypoints-requires
     points-in-requires
-    once-each-requires
     returns)

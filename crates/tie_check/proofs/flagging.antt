@@ -1,0 +1,2 @@
+-- Laws of flagging.
+pub mod Kept
