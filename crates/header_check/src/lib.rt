@@ -25,7 +25,7 @@ ghost use lib.ListN.{length, getD};
 ghost use Rattle.card_screen.specs.Roles.{sure as isSureOf};
 ghost use Rattle.header_check.specs.forms.Cards.{cardsIn, layoutOf};
 ghost use Rattle.header_check.specs.packed.Notes.{notesTo};
-ghost use Rattle.header_check.specs.packed.Noted.{Noted};
+ghost use Rattle.header_check.specs.packed.Noted.{Noted, notedFor};
 ghost use Rattle.header_check.specs.Opening.{codeNumber, goesOn};
 ghost use Rattle.header_check.specs.Refusing.{isUnknown, placedVerdict, endVerdict, answerFor, cardsAnswer, largest, refusalOf};
 
@@ -158,11 +158,11 @@ fn check_cards(header: &[u8], cards: &[u8; CARDS], notes: &[u8; NOTES]) -> Check
     answer_for(judge_end(line), count + 1)
 }
 
-// The answer to a header of whatever length and content. Where it is accepted, its cards are noted in the lent array.
+// The answer to a header of whatever length and content, with its cards noted in the lent array unless its length refuses it.
 pub fn check_noting(header: &[u8], cards: &mut [u8; CARDS]) -> Checked
     requires { ⌜ length (now cards) ≡ largest ⌝ }
     ensures answer { λ r. ⌜ r ≡ refusalOf (now (header .entry)) ⌝ }
-    ensures cards { λ r. ⌜ (r ≡ Checked.Accepted → Noted (now (header .entry)) (cardsIn (now (header .entry))) (now (cards .exit))) ⌝ }
+    ensures cards { λ _. ⌜ now (cards .exit) ≡ notedFor (now (header .entry)) (now (cards .entry)) ⌝ }
 {
     if header.len() == 0 {
         return Checked::Refused(refuse(EMPTY, 0, 0));

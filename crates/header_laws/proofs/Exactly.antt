@@ -110,7 +110,7 @@ module _ (h : List ℕ) where
 
   sized-way : Sized h → refusalOf h ≡ answerFor (verdictAt h (place h)) (place h + 1)
   unfolding cardsAnswer answerAt
-  sized-way s = by-cards h (s .some) (s .whole) (s .few)
+  sized-way s = by-cards h (s .some) (s .whole) (s .few) .0
 
   -- one of the ways to be answered
   data Way : Type 0 where
@@ -132,16 +132,16 @@ module _ (h : List ℕ) where
   ]
 
   refused-for : (n card column : ℕ) → Way → refusalOf h ≡ Refused (refusal n card column) → Amiss h n card column
-  refused-for n card column (short e) r = alike 1 0 0 n card column (sym (no-bytes h e) ∙ r) (empty e)
-  refused-for n card column (odd e q) r = alike 2 0 0 n card column (sym (odd-bytes h e q) ∙ r) (broken e q)
-  refused-for n card column (many e q l) r = alike 3 0 0 n card column (sym (too-many h e q l) ∙ r) (long e q l)
+  refused-for n card column (short e) r = alike 1 0 0 n card column (sym (no-bytes h e .0) ∙ r) (empty e)
+  refused-for n card column (odd e q) r = alike 2 0 0 n card column (sym (odd-bytes h e q .0) ∙ r) (broken e q)
+  refused-for n card column (many e q l) r = alike 3 0 0 n card column (sym (too-many h e q l .0) ∙ r) (long e q l)
   refused-for n card column (cards s) r = by-card s (verdictAt h (place h)) refl n card column (sym (sized-way s) ∙ r)
 
   amiss-refused : {n card column : ℕ} → Amiss h n card column → refusalOf h ≡ Refused (refusal n card column)
-  amiss-refused (empty e) = no-bytes h e
-  amiss-refused (broken e q) = odd-bytes h e q
-  amiss-refused (long e q l) = too-many h e q l
-  amiss-refused (at-card {c} {n} {column} s f) = by-cards h (s .some) (s .whole) (s .few) ∙ answers h c n column f
+  amiss-refused (empty e) = no-bytes h e .0
+  amiss-refused (broken e q) = odd-bytes h e q .0
+  amiss-refused (long e q l) = too-many h e q l .0
+  amiss-refused (at-card {c} {n} {column} s f) = by-cards h (s .some) (s .whole) (s .few) .0 ∙ answers h c n column f
 
   -- a refusal is given exactly where it is the first thing amiss
   pub refused-exactly : (n card column : ℕ) → (refusalOf h ≡ Refused (refusal n card column)) ↔ Amiss h n card column
@@ -163,11 +163,11 @@ module _ (h : List ℕ) where
   all-fine (Offence n column) e a c l = absurd (never (refusal n (place h + 1) column) (sym a))
 
   accepted-for : Way → refusalOf h ≡ Accepted → Sized h × Fine-throughout h
-  accepted-for (short e) r = absurd (never (refusal 1 0 0) (sym r ∙ no-bytes h e))
-  accepted-for (odd e q) r = absurd (never (refusal 2 0 0) (sym r ∙ odd-bytes h e q))
-  accepted-for (many e q l) r = absurd (never (refusal 3 0 0) (sym r ∙ too-many h e q l))
+  accepted-for (short e) r = absurd (never (refusal 1 0 0) (sym r ∙ no-bytes h e .0))
+  accepted-for (odd e q) r = absurd (never (refusal 2 0 0) (sym r ∙ odd-bytes h e q .0))
+  accepted-for (many e q l) r = absurd (never (refusal 3 0 0) (sym r ∙ too-many h e q l .0))
   accepted-for (cards s) r = (s, all-fine (verdictAt h (place h)) refl (sym (sized-way s) ∙ r))
 
   -- a header is accepted exactly where its length is one of cards and nothing is amiss at any of them, nor past the last
   pub accepted-exactly : (refusalOf h ≡ Accepted) ↔ (Sized h × Fine-throughout h)
-  accepted-exactly = (λ r. accepted-for way r, λ a. by-cards h (a .0 .some) (a .0 .whole) (a .0 .few) ∙ accepts h (a .1))
+  accepted-exactly = (λ r. accepted-for way r, λ a. by-cards h (a .0 .some) (a .0 .whole) (a .0 .few) .0 ∙ accepts h (a .1))

@@ -1,29 +1,23 @@
 -- `header_check::check_noting` meets its contract.
-use Prim.Native.Nat.{ℕ}
 use denote.Ref.{now}
-use mathlib.Core.Path.{_≡_, sym, ap, _∙_}
+use mathlib.Core.Path.{sym, ap, _∙_}
 use native.Mathlib.Omega.{arith}
-use Rattle.base_refusal.specs.declared.Refusal.{Refusal}
 use Rattle.header_check.specs.forms.Cards.{cardsIn}
-use Rattle.header_check.specs.declared.Checked.the-variants.{Accepted, Refused}
+use Rattle.header_check.specs.declared.Checked.the-variants.{Refused}
 use Rattle.header_check.proofs.Lengths.{no-bytes, odd-bytes, too-many, by-cards}
 use Rattle.header_check.proofs.forms.Layouts.{all-noted}
 use borrow.Author.Needs.{needs}
 use Rattle.header_check.proofs.check_noting.Statement.{statement}
 use Rattle.header_check.proofs.check_noting.Tie as tie
 
--- a refusal accepts nothing
-not-accepted : (r : Refusal) → Refused r ≡ Accepted → ⊥
-not-accepted r e = let z : _≡_ {A = ℕ} 0 1 = cc in omega arith
-
 refuse-requires : tie.Need-refuse-requires
 refuse-requires c κs = search needs
 
 returns : tie.Need-returns
-returns c = (
-  ap Refused (c .refuse .ensures) ∙ sym (no-bytes (now (c .before .before .before .args .header)) (c .before .if1 .taken)),
-  λ e. absurd (not-accepted _ e),
-)
+returns c =
+    let s = c .before .before .before in
+    let e = no-bytes (now (s .args .header)) (c .before .if1 .taken) in
+    (ap Refused (c .refuse .ensures) ∙ sym (e .0), sym (e .1 (now (s .args .cards))))
 
 refuse-requires-2 : tie.Need-refuse-requires-2
 refuse-requires-2 c κs = search needs
@@ -31,8 +25,9 @@ refuse-requires-2 c κs = search needs
 returns-2 : tie.Need-returns-2
 returns-2 c =
     let i = c .before .before in
-    let h = now (i .before .before .args .header) in
-    (ap Refused (c .refuse2 .ensures) ∙ sym (odd-bytes h (i .if1 .left) (c .before .if2 .taken)), λ e. absurd (not-accepted _ e))
+    let s = i .before .before in
+    let e = odd-bytes (now (s .args .header)) (i .if1 .left) (c .before .if2 .taken) in
+    (ap Refused (c .refuse2 .ensures) ∙ sym (e .0), sym (e .1 (now (s .args .cards))))
 
 refuse-requires-3 : tie.Need-refuse-requires-3
 refuse-requires-3 c κs = search needs
@@ -42,8 +37,9 @@ unfolding cardsIn
 returns-3 c =
     let j = c .before .before in
     let i = j .before in
-    let h = now (i .before .before .args .header) in
-    (ap Refused (c .refuse3 .ensures) ∙ sym (too-many h (i .if1 .left) (j .if2 .left) (omega arith)), λ e. absurd (not-accepted _ e))
+    let s = i .before .before in
+    let e = too-many (now (s .args .header)) (i .if1 .left) (j .if2 .left) (omega arith) in
+    (ap Refused (c .refuse3 .ensures) ∙ sym (e .0), sym (e .1 (now (s .args .cards))))
 
 notes-of-requires : tie.Need-notes-of-requires
 notes-of-requires c κs = c .before .before .before .before .before .pre
@@ -64,10 +60,8 @@ returns-4 c =
     let j = k .before in
     let i = j .before in
     let s = i .before .before in
-    let h = now (s .args .header) in (
-      c .check-cards .ensures ∙ sym (by-cards h (i .if1 .left) (j .if2 .left) (omega arith)),
-      λ e. all-noted h _ (s .pre) _ _ (n .notes-of .ensures .1) (omega arith),
-    )
+    let e = by-cards (now (s .args .header)) (i .if1 .left) (j .if2 .left) (omega arith) in
+    (c .check-cards .ensures ∙ sym (e .0), n .notes-of .ensures .1 ∙ sym (e .1 (now (s .args .cards))))
 
 pub check-noting-spec : {M : Type 1} → statement M
 check-noting-spec =

@@ -1,13 +1,13 @@
 -- What is noted of each card of a header. No promise to a caller cites this.
 use Prim.Native.Nat.{ℕ, zero, suc, _+_, _*_, _%_, _<_}
 use mathlib.Core.Path.{_≡_}
-use mathlib.Core.Bool.{Bool, cond}
+use mathlib.Core.Bool.{Bool, cond, not}
 use mathlib.Core.List.{List}
-use lib.Dec.{leb}
+use lib.Dec.{eqb, leb, ltb}
 use lib.ListN.{length, getD, set}
 use Rattle.base_lists.specs.Count.{bit}
 use Rattle.card_screen.specs.Roles.{sure}
-use Rattle.header_check.specs.forms.Cards.{cardAt, layoutOf}
+use Rattle.header_check.specs.forms.Cards.{cardAt, cardsIn, layoutOf}
 use Rattle.header_check.specs.Refusing.{largest}
 
 -- a card's note: the number of its layout, and 128 more where the screen is sure of it
@@ -32,6 +32,12 @@ withFlag note = cond (isFlagged note) note (note + 64)
 unfoldable pub notedTo : List ℕ → List ℕ → ℕ → List ℕ
 notedTo h old zero = old
 notedTo h old (suc c) = set (notedTo h old c) c (cardNote (cardAt h c))
+
+-- with those of all cards behind a check, as it was where the length alone refuses the header
+unfoldable pub notedFor : List ℕ → List ℕ → List ℕ
+notedFor h old =
+    cond (eqb (length h) 0) old
+    (cond (not (eqb (length h % 80) 0)) old (cond (ltb largest (cardsIn h)) old (notedTo h old (cardsIn h))))
 
 -- an array with a flag at a card
 unfoldable pub flagged : List ℕ → ℕ → List ℕ

@@ -1,5 +1,6 @@
 -- `tie_check::check` meets its contract.
 use mathlib.Core.Path.{refl, sym, ap, _∙_}
+use Rattle.header_check.proofs.Lengths.{accepted-noted}
 use Rattle.tie_check.specs.Answer.{answerFor, listFor}
 use Rattle.tie_check.specs.declared.Ties.the-variants.{Found}
 use borrow.Author.Needs.{needs}
@@ -15,8 +16,9 @@ enum-told c = search needs
 list-faults-requires : tie.Need-list-faults-requires
 list-faults-requires c κs =
     let e = c .before .before in
-    let n = e .before .before .check-noting in
-    (sym (n .ensures .0) ∙ e .enum-told .given .1, n .ensures .1 (e .enum-told .given .1))
+    let n = e .before .before in
+    let a = sym (n .check-noting .ensures .0) ∙ e .enum-told .given .1 in
+    (a, accepted-noted _ a _ _ refl (n .check-noting .ensures .1))
 
 enum-known-checked : tie.Need-enum-known-checked
 enum-known-checked c = search needs
