@@ -33,7 +33,7 @@ unfoldable pub notedTo : List ℕ → List ℕ → ℕ → List ℕ
 notedTo h old zero = old
 notedTo h old (suc c) = set (notedTo h old c) c (cardNote (cardAt h c))
 
--- with those of all cards behind a check, as it was where the length alone refuses the header
+-- with those of all cards after a check; as it was where the length alone refuses the header
 unfoldable pub notedFor : List ℕ → List ℕ → List ℕ
 notedFor h old =
     cond (eqb (length h) 0) old
