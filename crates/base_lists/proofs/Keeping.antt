@@ -53,6 +53,7 @@ module _ {ℓ} {A : Type ℓ} where
     -- what is of the list, and passes, was kept
     pub into_kept : (l : List A) {a : A} → Memᴰ a l → p a ≡ true → Memᴰ a (kept p l)
     unfolding kept
+    into_kept [] m t = elim m [ ]
     into_kept (x ∷ l) (Memᴰ.head e) t = into_keep (p x) (inl (e, ap p (sym e) ∙ t))
     into_kept (x ∷ l) (Memᴰ.tail m) t = into_keep (p x) (inr (into_kept l m t))
 

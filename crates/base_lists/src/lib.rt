@@ -3,6 +3,8 @@
 // laws. Here is the reading of a byte, and the comparison of two texts, that all of them need. They
 // answer every input.
 
+#![tactic(auto)]
+
 ghost use Rattle.std.specs.Prelude.{◌≡◌, ◌≤◌, get_or};
 ghost use Rattle.base_lists.specs.Count.{bit};
 ghost use Rattle.base_lists.specs.Parts.{alike};

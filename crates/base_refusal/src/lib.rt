@@ -1,4 +1,6 @@
 // Why something is refused, and where: the paper's numbers, named once.
+#![tactic(auto)]
+
 ghost use Rattle.std.specs.Prelude.{◌≡◌};
 ghost use Rattle.base_refusal.specs.Refusals.{refusal};
 

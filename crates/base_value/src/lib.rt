@@ -1,4 +1,6 @@
 // What is read from the columns of a field: the values of the paper's kinds, and the two ways in which columns hold none.
+#![tactic(auto)]
+
 ghost use Rattle.std.specs.Prelude.{◌≡◌, ◌*◌, ◌^◌, ◌≤◌, min, max, ◌+ℤ◌, nat_abs};
 ghost use Rattle.base_value.specs.Sums.{decimal, largest, raised_of, sum_of};
 

@@ -71,6 +71,8 @@ itself p b t = go (eqb p 64) (eqb p 35) t
   where
     go : (x y : Bool) → T (not x && not y && ltb p 256)
         → eqb p b ≡ cond x (leb 49 b && leb b 57) (cond y (leb 48 b && leb b 57) (eqb p b))
+    go false true t = elim t [ ]
+    go true y t = elim t [ ]
     go false false t = refl
 
 below : (p : ℕ) → T (plain p) → p < 256

@@ -1,4 +1,5 @@
 // What the code of a card is: read by a layout, passed, or unknown.
+#![tactic(auto)]
 
 ghost use Rattle.std.specs.Prelude.{◌≡◌, ℕ, ◌<◌, ◌≤◌, ◌+◌, ◌*◌, List, length, drop};
 ghost use Rattle.format_layout.specs.Table.{passed_codes};

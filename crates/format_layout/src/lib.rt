@@ -1,4 +1,6 @@
 // The layout table: what a field is, and the row of each field of each code.
+#![tactic(auto)]
+
 pub mod fields;
 pub mod label;
 pub mod names;

@@ -1,0 +1,11 @@
+-- `format_layout::fields::fields_in` meets its contract: the rows of a layout stand one behind the other, and behind them none.
+use Prim.Native.Nat.{◌≤◌, ◌-◌}
+use lib.ListN.{length}
+use Rattle.format_layout.specs.Layouts.{fields_of}
+use Rattle.format_layout.proofs.fields.fields_in.Given as goal
+
+abbrev pub invariant-loop-layout : goal.invariant-loop-layout
+invariant-loop-layout l = l.count ≤ length (fields_of l.layout)
+
+abbrev pub decreases-loop-layout : goal.decreases-loop-layout
+decreases-loop-layout l = length (fields_of l.layout) - l.count

@@ -1,0 +1,8 @@
+-- `format_layout::fields::first_of` meets its contract: it is one part of the row.
+use mathlib.Core.Path.{refl}
+use Rattle.format_layout.specs.packed.Rows.{unpack}
+use Rattle.format_layout.proofs.fields.first_of.Goals as goal
+
+pub returns : goal.returns
+unfolding unpack
+returns c = refl
