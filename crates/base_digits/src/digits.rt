@@ -6,7 +6,7 @@ ghost use Rattle.base_digits.specs.digits.Figures.{blanks, run_of, capped};
 pub const LIMIT: u64 = 1000000000000000000;
 
 // What a walk over digits finds: the number they make, and how many they are.
-#[derive(Drop)]
+#[derive(Clone, Copy)]
 pub struct Run {
     pub number: u64,
     pub count: usize,

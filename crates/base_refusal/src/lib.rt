@@ -69,7 +69,7 @@ pub const NO_DIRECTION: usize = 25;
 pub const NO_READING: usize = 26;
 
 // A refusal's number, card and column: 0 for a card or a column where there is none.
-#[derive(Drop)]
+#[derive(Clone, Copy)]
 pub struct Refusal {
     pub number: usize,
     pub card: usize,
@@ -87,7 +87,7 @@ pub fn refuse(number: usize, card: usize, column: usize) -> Refusal
 }
 
 // What came of writing into columns; unless it is done they are as they were.
-#[derive(Drop)]
+#[derive(Clone, Copy)]
 pub enum Written {
     Done,
     Unprintable,

@@ -7,7 +7,7 @@ ghost use Rattle.base_value.specs.Sums.{decimal, largest, raised_of, sum_of};
 use base_digits::{digits, signs};
 
 // Units, and how many of their digits stand behind the point: 1.5 and 1.50 differ.
-#[derive(Drop)]
+#[derive(Clone, Copy)]
 pub struct Decimal {
     pub units: i64,
     pub places: usize,
@@ -107,7 +107,7 @@ fn added(a: i64, b: i64) -> i64
 }
 
 // Year, month and day; not all such numbers are a day of the calendar.
-#[derive(Drop)]
+#[derive(Clone, Copy)]
 pub struct Date {
     pub year: u32,
     pub month: u32,
@@ -115,14 +115,14 @@ pub struct Date {
 }
 
 // The columns that a text takes, counted from 1.
-#[derive(Drop)]
+#[derive(Clone, Copy)]
 pub struct Columns {
     pub first: usize,
     pub last: usize,
 }
 
 // A value read: a whole number, units with places, thousandths of a second of arc, a day or a text's columns.
-#[derive(Drop)]
+#[derive(Clone, Copy)]
 pub enum Value {
     Absent,
     Whole(i64),
@@ -133,7 +133,7 @@ pub enum Value {
 }
 
 // What stands in a field's columns.
-#[derive(Drop)]
+#[derive(Clone, Copy)]
 pub enum Reading {
     Held(Value),
     Malformed,

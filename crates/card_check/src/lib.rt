@@ -15,7 +15,7 @@ use format_layout::{BLANK, CARD, CODE, Form, Kind, fields, label};
 use value_text::printable;
 
 // What a card is by itself: fine, or the number of its first offence and its column.
-#[derive(Drop)]
+#[derive(Clone, Copy)]
 pub enum Verdict {
     Fine,
     Offence(usize, usize),

@@ -12,7 +12,7 @@ use value_field::spelling;
 use value_field::spelling::Spelling;
 
 // What a field says, or the number of its offence.
-#[derive(Drop)]
+#[derive(Clone, Copy)]
 pub enum Judged {
     Is(Value),
     Not(usize),

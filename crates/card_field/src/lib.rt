@@ -15,7 +15,7 @@ use format_layout::fields;
 use value_text::text;
 
 // The answer to reading a field: its value and whether that is a misplaced number, one with blanks behind it.
-#[derive(Drop)]
+#[derive(Clone, Copy)]
 pub enum FieldRead {
     Is(Value, bool),
     Refused(Refusal),

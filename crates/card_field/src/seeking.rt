@@ -9,14 +9,14 @@ use format_layout::{CARD, CODE, Field};
 use value_text::printable;
 
 // The field that a number names, with its layout: what is promised of a card says so.
-#[derive(Drop)]
+#[derive(Clone, Copy)]
 pub enum Sought {
     Is(usize, Field),
     Refused(Refusal),
 }
 
 // The same by the field's row, one number, so that no field is copied on the way.
-#[derive(Drop)]
+#[derive(Clone, Copy)]
 pub enum Way {
     At(usize, u64),
     Refused(Refusal),

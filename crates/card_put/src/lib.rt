@@ -19,7 +19,7 @@ use format_layout::{Form, fields, ranges};
 use value_field::writing;
 
 // The answer to an entry; unless it is done the card is as it was.
-#[derive(Drop)]
+#[derive(Clone, Copy)]
 pub enum Entered {
     Done,
     Refused(Refusal),

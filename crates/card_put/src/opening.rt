@@ -9,7 +9,7 @@ use format_code::Code;
 use format_layout::{CARD, CODE, label};
 
 // The answer to opening a card.
-#[derive(Drop)]
+#[derive(Clone, Copy)]
 pub enum Opened {
     Done,
     Refused(Refusal),

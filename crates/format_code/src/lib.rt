@@ -31,7 +31,7 @@ const H2310: u64 = 0x48_32_33_31_30;
 const H50: u64 = 0x48_35_30_00_00;
 
 // A card's code: read by the layout with a number, passed, or unknown.
-#[derive(Drop)]
+#[derive(Clone, Copy)]
 pub enum Code {
     Read(usize),
     Passed,

@@ -7,7 +7,7 @@ ghost use Rattle.format_layout.specs.packed.Rows.{label_row};
 const LABEL: usize = 23;
 
 // A label with the blanks behind it, and how many columns it fills.
-#[derive(Drop)]
+#[derive(Clone, Copy)]
 struct Label {
     text: [u8; LABEL],
     width: usize,

@@ -25,7 +25,7 @@ pub const CARDS: usize = 4096;
 pub const FEW_CARDS: usize = 800;
 
 // How a field is spelled. A comment is a text that may begin with blanks.
-#[derive(Drop)]
+#[derive(Clone, Copy)]
 pub enum Kind {
     Text,
     Comment,
@@ -37,7 +37,7 @@ pub enum Kind {
 }
 
 // The values that a whole number may have: any; from a number up; from one to another; one of three.
-#[derive(Drop)]
+#[derive(Clone, Copy)]
 pub enum Range {
     Any,
     AtLeast(u64),
@@ -46,7 +46,7 @@ pub enum Range {
 }
 
 // A field: its columns count from 1. One of a second set is needed only where that set is present.
-#[derive(Drop)]
+#[derive(Clone, Copy)]
 pub struct Field {
     pub kind: Kind,
     pub first: usize,
@@ -57,14 +57,14 @@ pub struct Field {
 }
 
 // The answer to a field's number.
-#[derive(Drop)]
+#[derive(Clone, Copy)]
 pub enum Found {
     Is(Field),
     Nothing,
 }
 
 // How a card's coordinates are spelled: form 0, form 1, or it cannot be known.
-#[derive(Drop)]
+#[derive(Clone, Copy)]
 pub enum Form {
     Angles,
     Grid,

@@ -21,7 +21,7 @@ use value_text::printable;
 const OPENING: usize = 8;
 
 // The answer to a header.
-#[derive(Drop)]
+#[derive(Clone, Copy)]
 pub enum Checked {
     Accepted,
     Refused(Refusal),

@@ -22,7 +22,7 @@ const TEXT: i64 = 5;
 
 // What an answer says, and the numbers that go with it. No two that stand side by side in the caller's list do so here: the
 // compiler would load both as one, which has to wait until they are stored.
-#[derive(Drop)]
+#[derive(Clone, Copy)]
 pub struct Reply {
     pub second: i64,
     pub said: i64,

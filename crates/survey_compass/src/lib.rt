@@ -21,7 +21,7 @@ const CIRCLE: u64 = 360;
 const PLACES: usize = 11;
 
 // A heading of 0 to under 360 degrees, or why there is none.
-#[derive(Drop)]
+#[derive(Clone, Copy)]
 pub enum Heading {
     Is(Decimal),
     Refused(Refusal),

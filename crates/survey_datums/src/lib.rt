@@ -18,14 +18,14 @@ use header_check::Checked;
 pub const UNDEFINED: u8 = 10;
 
 // Whether the routes are told, or the refusal.
-#[derive(Drop)]
+#[derive(Clone, Copy)]
 pub enum Answer {
     Told,
     Refused(Refusal),
 }
 
 // Of each datum from 1 on the number of shifts (9: no route, 10: not defined), and eight cards, 0 behind the last of its route.
-#[derive(Drop)]
+#[derive(Clone, Copy)]
 pub struct Routes {
     pub answer: Answer,
     pub shifts: [u8; DATUMS],
@@ -33,7 +33,7 @@ pub struct Routes {
 }
 
 // What is told of one datum.
-#[derive(Drop)]
+#[derive(Clone, Copy)]
 pub enum Way {
     Undefined,
     NoRoute,

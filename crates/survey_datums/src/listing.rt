@@ -16,7 +16,7 @@ pub const ROW: usize = 9;
 const NUMBERS: usize = 81;
 
 // How many datums have a route, or the refusal.
-#[derive(Drop)]
+#[derive(Clone, Copy)]
 pub enum Listed {
     Routed(usize),
     Refused(Refusal),

@@ -9,7 +9,7 @@ ghost use Rattle.tie_check.specs.packed.Stored.{stored_all, entries_for};
 pub const ENTRY: usize = 4;
 
 // Which kinds of broken tie a column has.
-#[derive(Drop)]
+#[derive(Clone, Copy)]
 pub struct Broken {
     pub undefined: bool,
     pub redefined: bool,

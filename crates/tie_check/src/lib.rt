@@ -18,7 +18,7 @@ use format_layout::CARDS;
 use header_check::Checked;
 
 // The answer of the check: the number of all faults, or the header's refusal.
-#[derive(Drop)]
+#[derive(Clone, Copy)]
 pub enum Ties {
     Found(usize),
     Refused(Refusal),

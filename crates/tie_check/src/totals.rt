@@ -16,7 +16,7 @@ use tie_store::{LINKS, ROOM};
 // A count for each vessel, and one for all other numbers.
 pub const VESSELS: usize = 11;
 
-#[derive(Drop)]
+#[derive(Clone, Copy)]
 pub struct Totals {
     pub waypoints: [usize; VESSELS],
     pub points: usize,

@@ -10,16 +10,16 @@ use header_check::Checked;
 use tie_rules::{NODES, OBSERVATIONS, SENSORS, STREAMERS};
 
 // The numbers of streamers, nodes, motion sensors and observations, each with a question of its own.
-#[derive(Drop)]
+#[derive(Clone, Copy)]
 pub struct Streamer(pub i64);
 
-#[derive(Drop)]
+#[derive(Clone, Copy)]
 pub struct Node(pub i64);
 
-#[derive(Drop)]
+#[derive(Clone, Copy)]
 pub struct Sensor(pub i64);
 
-#[derive(Drop)]
+#[derive(Clone, Copy)]
 pub struct Observation(pub i64);
 
 // What a header says of a key of a class: the header's refusal first, then 13 where there is no such class.

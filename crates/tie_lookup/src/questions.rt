@@ -11,7 +11,7 @@ use format_layout::CARD;
 use tie_rules::{CLASSES, offered};
 
 // A key that is offered; the bytes of a text are lent beside it.
-#[derive(Drop)]
+#[derive(Clone, Copy)]
 pub enum Key {
     Whole(i64),
     Pair(i64, i64),
@@ -19,7 +19,7 @@ pub enum Key {
 }
 
 // What a header says of a key: no definition, the card and the column of the only one, or the number of several; or the refusal.
-#[derive(Drop)]
+#[derive(Clone, Copy)]
 pub enum Defined {
     None,
     Only(usize, usize),

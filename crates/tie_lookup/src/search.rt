@@ -8,7 +8,7 @@ use header_check::forms;
 use tie_rules::{SLOTS, keys};
 
 // How many places define a key, and the only one, counted from 1; 0 where they are not exactly one.
-#[derive(Drop)]
+#[derive(Clone, Copy)]
 pub struct Found {
     pub number: usize,
     pub only: usize,

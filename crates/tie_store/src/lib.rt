@@ -30,7 +30,7 @@ pub const LINKS: usize = HEADS + BUCKETS;
 const NO_TAG: u16 = 10;
 
 // What is told of a key: how many entries have it, and the tag of the only one, NO_TAG where there is not exactly one.
-#[derive(Drop)]
+#[derive(Clone, Copy)]
 pub struct Told {
     pub times: usize,
     pub tag: u16,

@@ -21,7 +21,7 @@ pub const WIDTH: usize = 12;
 pub const LAST: usize = 11;
 
 // The parts of an angle, as they stand in its columns.
-#[derive(Drop)]
+#[derive(Clone, Copy)]
 pub struct Parts {
     pub degrees: number::Figures,
     pub minutes: number::Figures,

@@ -16,7 +16,7 @@ const QUARTER: u64 = 324000000;
 const HALF: u64 = 648000000;
 
 // Y goes north and south, X east and west.
-#[derive(Drop)]
+#[derive(Clone, Copy)]
 pub enum Axis {
     Y,
     X,

@@ -10,7 +10,7 @@ use value_text::text;
 
 // How a field is spelled. A comment's text may begin with blanks; Y is a latitude in form 0 and a northing in
 // form 1, X a longitude and an easting. So columns are read without looking elsewhere, and no form can be guessed.
-#[derive(Drop)]
+#[derive(Clone, Copy)]
 pub enum Spelling {
     Text,
     Comment,

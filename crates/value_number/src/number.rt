@@ -12,7 +12,7 @@ pub const MINUS: u8 = 45;
 pub const POINT: u8 = 46;
 
 // What the digits of an unsigned number are worth, or that they are none.
-#[derive(Drop)]
+#[derive(Clone, Copy)]
 pub enum Figures {
     Units(u64, usize),
     Not,

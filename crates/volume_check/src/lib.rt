@@ -17,14 +17,14 @@ use header_check::Checked;
 use volume_form::{Form, NAME, NAME_END, SEQUENCE, SEQUENCE_END, reading};
 
 // How many lines a volume has, or its refusal.
-#[derive(Drop)]
+#[derive(Clone, Copy)]
 pub enum Counted {
     Lines(usize),
     Refused(Refusal),
 }
 
 // A line's first card, how many cards it has, and its directory card, all counted from 1; or the refusal.
-#[derive(Drop)]
+#[derive(Clone, Copy)]
 pub enum Found {
     Line(usize, usize, usize),
     Refused(Refusal),

@@ -26,7 +26,7 @@ use volume_check::judging;
 use volume_form::{FIRST, Form, SECOND, building, moving, reading};
 
 // How many cards and lines are kept.
-#[derive(Drop)]
+#[derive(Clone, Copy)]
 pub struct Kept {
     pub cards: usize,
     pub lines: usize,

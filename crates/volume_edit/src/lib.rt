@@ -19,7 +19,7 @@ use volume_check::judging;
 use volume_form::{Form, building, moving};
 
 // The number of cards that a volume now has, or the refusal.
-#[derive(Drop)]
+#[derive(Clone, Copy)]
 pub enum Volume {
     Cards(usize),
     Refused(Refusal),
