@@ -1,4 +1,5 @@
 // Dates in columns: the days of the Gregorian calendar, read and written as eight digits.
+#![tactic(auto)]
 
 ghost use Rattle.std.specs.Prelude.{◌≡◌, ◌<◌, length};
 ghost use Rattle.base_digits.specs.digits.Columns.{answer_of, entered_in};
