@@ -1,0 +1,23 @@
+-- `value_field::writing::write_day` meets its contract.
+-- src/lib.rt:219:32
+use borrow.Enum.Refused.{opened}
+use Rattle.value_field.proofs.writing.Ways.{same_entry, no_day}
+use Rattle.value_field.specs.writing.Writing.{day_in}
+use Rattle.base_digits.proofs.digits.Answers.{turned_away}
+use lib.ListN.{length}
+use mathlib.Core.Path.{ap}
+use Rattle.value_field.proofs.writing.write_day.Goals as goal
+
+pub returns-in-Absent : goal.returns-in-Absent
+unfolding day_in
+returns-in-Absent c =
+    record { answer = (same_entry c.args.columns.now c.blank.new.columns _ (ap (λ x. day_in (length c.args.columns.now) x) c.in-Absent.is) c.blank.ensures.answer c.blank.ensures.columns).0; columns = (same_entry c.args.columns.now c.blank.new.columns _ (ap (λ x. day_in (length c.args.columns.now) x) c.in-Absent.is) c.blank.ensures.answer c.blank.ensures.columns).1 }
+
+pub returns-in-Date : goal.returns-in-Date
+unfolding day_in
+returns-in-Date c =
+    record { answer = (same_entry c.args.columns.now c.write_date.new.columns _ (ap (λ x. day_in (length c.args.columns.now) x) c.in-Date.is) c.write_date.ensures.answer c.write_date.ensures.columns).0; columns = (same_entry c.args.columns.now c.write_date.new.columns _ (ap (λ x. day_in (length c.args.columns.now) x) c.in-Date.is) c.write_date.ensures.answer c.write_date.ensures.columns).1 }
+
+pub returns-in_default : goal.returns-in_default
+returns-in_default c =
+    record { answer = (turned_away c.args.columns.now (no_day _ _ (opened c.in_default.in_default-own.keys3))).0; columns = (turned_away c.args.columns.now (no_day _ _ (opened c.in_default.in_default-own.keys3))).1 }

@@ -1,0 +1,23 @@
+-- `value_field::writing::write_grid` meets its contract.
+-- src/lib.rt:243:32
+use borrow.Enum.Refused.{opened}
+use Rattle.value_field.proofs.writing.Ways.{same_entry, no_grid}
+use Rattle.value_field.specs.writing.Writing.{grid_entry_in}
+use Rattle.base_digits.proofs.digits.Answers.{turned_away}
+use lib.ListN.{length}
+use mathlib.Core.Path.{ap}
+use Rattle.value_field.proofs.writing.write_grid.Goals as goal
+
+pub returns-in-Absent : goal.returns-in-Absent
+unfolding grid_entry_in
+returns-in-Absent c =
+    record { answer = (same_entry c.args.columns.now c.blank.new.columns _ (ap (λ x. grid_entry_in c.args.axis (length c.args.columns.now) x) c.in-Absent.is) c.blank.ensures.answer c.blank.ensures.columns).0; columns = (same_entry c.args.columns.now c.blank.new.columns _ (ap (λ x. grid_entry_in c.args.axis (length c.args.columns.now) x) c.in-Absent.is) c.blank.ensures.answer c.blank.ensures.columns).1 }
+
+pub returns-in-Decimal : goal.returns-in-Decimal
+unfolding grid_entry_in
+returns-in-Decimal c =
+    record { answer = (same_entry c.args.columns.now c.write_grid.new.columns _ (ap (λ x. grid_entry_in c.args.axis (length c.args.columns.now) x) c.in-Decimal.is) c.write_grid.ensures.answer c.write_grid.ensures.columns).0; columns = (same_entry c.args.columns.now c.write_grid.new.columns _ (ap (λ x. grid_entry_in c.args.axis (length c.args.columns.now) x) c.in-Decimal.is) c.write_grid.ensures.answer c.write_grid.ensures.columns).1 }
+
+pub returns-in_default : goal.returns-in_default
+returns-in_default c =
+    record { answer = (turned_away c.args.columns.now (no_grid _ _ _ (opened c.in_default.in_default-own.keys3))).0; columns = (turned_away c.args.columns.now (no_grid _ _ _ (opened c.in_default.in_default-own.keys3))).1 }
