@@ -7,6 +7,7 @@ use mathlib.Core.Bool.{Bool, true, false}
 use lib.ListN.{length, take, drop}
 use denote.Enum.Declared.{tag_of}
 use types.Run.{OneOf, miss}
+use Rattle.base_refusal.specs.declared.Refusal.{Refusal}
 use Rattle.base_value.specs.contracts.Value.{the_type as value-type}
 use Rattle.card_field.specs.contracts.judging.Judged.{the_type as judged-type}
 use Rattle.card_field.specs.contracts.seeking.Way.{the_type as way-type}
@@ -50,11 +51,6 @@ unfolding field_reading field_on
 reading_is s n form k f q j e b m = rw (q, e, m)
 
 -- whether a field says a text, and the text
-pub text-not : (j : Judged) → OneOf (1 ∷ []) (tag_of judged-type j) → holds_text j ≡ false
-unfolding holds_text
-text-not (judged.Is v) h = absurd (miss (1 ∷ []) 0 tt h)
-text-not (judged.Not n) h = refl
-
 pub text-other : (v : Value) → OneOf (0 ∷ 1 ∷ 2 ∷ 3 ∷ 4 ∷ []) (tag_of value-type v) → holds_text (judged.Is v) ≡ false
 unfolding holds_text
 text-other value.Absent h = refl
@@ -64,11 +60,10 @@ text-other (value.Angle z) h = refl
 text-other (value.Date d) h = refl
 text-other (value.Text c) h = absurd (miss (0 ∷ 1 ∷ 2 ∷ 3 ∷ 4 ∷ []) 5 tt h)
 
-pub text-refused : (s : List ℕ) (n form : ℕ) (w : Way) → w ≡ way_for n (sought_of s n form) → OneOf (1 ∷ []) (tag_of way-type w)
+pub text-refused : (s : List ℕ) (n form : ℕ) (w : Way) (r : Refusal) → w ≡ way_for n (sought_of s n form) → w ≡ way.Refused r
     → field_text s n form ≡ []
 unfolding field_text text_on
-text-refused s n form (way.At k r) e h = absurd (miss (1 ∷ []) 0 tt h)
-text-refused s n form (way.Refused r) e h = rw (way_refused s n form (way.Refused r) e r refl)
+text-refused s n form w r e h = rw (way_refused s n form w e r h)
 
 module _ (s : List ℕ) (n form k : ℕ) (f : Field) (q : sought_of s n form ≡ Is k f) (j : Judged) (e : j ≡ judged_of k s f (form_numbered form)) where
   pub text-none : holds_text j ≡ false → field_text s n form ≡ []

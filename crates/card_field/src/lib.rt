@@ -1,4 +1,6 @@
 // One field of one card, read by its number: its value, or its text.
+#![tactic(auto)]
+
 pub mod judging;
 pub mod needing;
 pub mod seeking;

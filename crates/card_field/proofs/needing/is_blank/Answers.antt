@@ -1,0 +1,10 @@
+-- `card_field::needing::is_blank` meets its contract.
+-- src/lib.rt:124:5
+use Rattle.card_field.specs.needing.Needs.{is_blank}
+use lib.Dec.{eqb}
+use mathlib.Core.Path.{ap}
+use Rattle.card_field.proofs.needing.is_blank.Goals as goal
+
+pub returns : goal.returns
+unfolding is_blank
+returns c = ap (λ n. eqb n 0) c.text_end.ensures.found

@@ -1,0 +1,17 @@
+-- `card_field::needing::second_by` meets its contract.
+-- src/lib.rt:170:9
+use Rattle.card_field.proofs.needing.Steps.{second_none, second_is}
+use Rattle.format_layout.proofs.Numbers.{found_lies}
+use mathlib.Core.Path.{sym, ◌∙◌}
+use native.Mathlib.Omega.{arith}
+use Rattle.card_field.proofs.needing.second_by.Goals as goal
+
+pub returns-in_default : goal.returns-in_default
+returns-in_default c = sym (second_none _ _ (sym c.field_of-found.ensures ∙ c.in_default.is))
+
+pub second_at-requires : goal.second_at-requires
+second_at-requires c =
+    let l = found_lies _ _ _ (sym c.field_of-found.ensures ∙ c.in-Is.is) in omega (arith, c.requires, l.after, l.forward, l.on_card_lem)
+
+pub returns : goal.returns
+returns c = c.second_at.ensures ∙ sym (second_is _ _ _ (sym c.field_of-found.ensures ∙ c.in-Is.is))
