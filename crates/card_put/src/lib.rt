@@ -1,4 +1,6 @@
 // Entering a value or a text into a field of a card: into its columns alone, or not at all.
+#![tactic(auto)]
+
 pub mod opening;
 
 ghost use Rattle.std.specs.Prelude.{◌≡◌, ◌≤◌, ◌-◌, length, [], T};

@@ -1,5 +1,8 @@
 // A card looked at column by column, each once. The machine may say that a card is fine; of any other card it says nothing, and the
 // card is judged field by field.
+
+#![tactic(auto)]
+
 pub mod roles;
 pub mod tables;
 
