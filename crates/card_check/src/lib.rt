@@ -1,4 +1,6 @@
 // One card judged by itself: its first offence and where it stands.
+#![tactic(auto)]
+
 pub mod offences;
 
 ghost use Rattle.std.specs.Prelude.{◌≡◌, ◌≤◌, ◌-◌, ◌+◌, length, T, ltb};
