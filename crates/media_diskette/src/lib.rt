@@ -1,5 +1,8 @@
 // Diskette files: a header as text lines of up to 80 characters, each ended by CR LF, and back. Both ways the input is
 // judged first and the output written afterwards, so that a refusal leaves the output as it was.
+
+#![tactic(auto)]
+
 ghost use Rattle.std.specs.Prelude.{◌≡◌, ◌++◌, ◌+◌, ◌*◌, ◌/◌, ◌≤◌, ◌<◌, length, take, drop};
 ghost use Rattle.std.proofs.Math.Option.{none};
 ghost use Rattle.media_diskette.specs.Lines.{line_of, lines_of, disk_of, line_length, lines_in, padded, cards_from};

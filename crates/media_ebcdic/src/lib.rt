@@ -1,4 +1,6 @@
 // Tapes in EBCDIC: a whole buffer translated by IBM code page 037, and back. Every byte and every length translates.
+#![tactic(auto)]
+
 pub mod tables;
 
 ghost use Rattle.std.specs.Prelude.{◌≡◌, length};

@@ -1,4 +1,6 @@
 // The forms of a volume, one row of a table each, and the cards that are no header's.
+#![tactic(auto)]
+
 pub mod building;
 pub mod moving;
 pub mod reading;
@@ -24,7 +26,7 @@ pub const SECOND: usize = 23;
 pub const NUMBERS: usize = 28;
 
 // The forms of a volume.
-#[derive(Drop)]
+#[derive(Clone, Copy)]
 pub enum Form {
     Old,
     Wide,

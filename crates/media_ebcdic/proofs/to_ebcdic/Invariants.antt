@@ -1,0 +1,12 @@
+-- `media_ebcdic::to_ebcdic` meets its contract.
+use Prim.Native.Nat.{◌-◌}
+use lib.ListN.{length}
+use Rattle.media_ebcdic.specs.Tables.{ebcdic_of}
+use Rattle.media_ebcdic.proofs.Going.{Going}
+use Rattle.media_ebcdic.proofs.to_ebcdic.Given as goal
+
+abbrev pub invariant-loop-i : goal.invariant-loop-i
+invariant-loop-i l = Going ebcdic_of l.text l.initial.out l.out l.i
+
+abbrev pub decreases-loop-i : goal.decreases-loop-i
+decreases-loop-i l = length l.text - l.i

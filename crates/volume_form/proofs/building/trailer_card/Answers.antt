@@ -1,0 +1,17 @@
+-- `volume_form::building::trailer_card` meets its contract.
+-- src/lib.rt:101:9
+use Rattle.volume_form.proofs.building.Built.{size-columns, trailer_built}
+use Rattle.volume_form.specs.Rows.{row_of}
+use Rattle.volume_form.specs.Marked.{padded}
+use Rattle.volume_form.proofs.Cards.{good_row}
+use mathlib.Core.Path.{ap, ◌∙◌}
+use native.Mathlib.Omega.{arith}
+use Rattle.volume_form.proofs.building.trailer_card.Goals as goal
+
+pub numbered-requires : goal.numbered-requires
+numbered-requires c =
+    let x = c.width_of-width.ensures in let g = good_row c.args.form in (omega arith, x.within.1, size-columns _ _ _ x.width g.some c.requires.0, size-columns _ _ _ x.width g.some c.requires.1)
+
+pub returns : goal.returns
+returns c =
+    let x = c.width_of-width.ensures in trailer_built (row_of c.args.form) (good_row c.args.form) (omega arith) _ _ c.requires.0 c.requires.1 _ x.width _ _ (c.coded-card.ensures ∙ ap padded c.trailer_code.ensures) c.numbered.ensures

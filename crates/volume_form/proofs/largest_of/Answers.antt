@@ -1,0 +1,13 @@
+-- `volume_form::largest_of` meets its contract.
+-- src/lib.rt:42:22
+use mathlib.Core.Path.{ap, sym}
+use Rattle.volume_form.specs.Rows.{row_of}
+use Rattle.volume_form.proofs.largest_of.Goals as goal
+
+pub returns-in-Old : goal.returns-in-Old
+unfolding row_of
+returns-in-Old c = sym (ap (λ x. (row_of x).largest) c.in-Old.is)
+
+pub returns-in-Wide : goal.returns-in-Wide
+unfolding row_of
+returns-in-Wide c = sym (ap (λ x. (row_of x).largest) c.in-Wide.is)
