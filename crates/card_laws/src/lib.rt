@@ -1,3 +1,5 @@
 // Laws about one card; no functions.
+#![tactic(auto)]
+
 pub mod exactly;
 pub mod rewriting;

@@ -1,4 +1,6 @@
 // The refusal of a whole header: its length, its cards one by one, and what is missing of its opening block.
+#![tactic(auto)]
+
 pub mod forms;
 
 ghost use Rattle.std.specs.Prelude.{◌≡◌, cond, ◌-◌, ◌≤◌, length, get_or};
