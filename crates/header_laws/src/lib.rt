@@ -1,1 +1,2 @@
 // Laws of the header's refusal; no functions.
+#![tactic(auto)]

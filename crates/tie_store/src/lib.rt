@@ -1,6 +1,9 @@
 // The store of definitions: entries of a key and a tag, each joined to the one before it in its key's bucket. An entry knows how
 // many up to and with itself have its key, so a key is counted by walking its chain to the last entry that has it, and no
 // further. A caller lends two arrays of zeros, adds one entry after the other, and then asks.
+
+#![tactic(auto)]
+
 ghost use Rattle.std.specs.Prelude.{◌≡◌, ◌+◌, ◌<◌, get_or};
 ghost use Rattle.base_lists.specs.Count.{count};
 ghost use Rattle.tie_store.specs.Store.{room, link_room, buckets, bucket, count_in, tag_at, holds, last, nothing_told, told_of, On, keys_with, entry_with, head_with, links_with, Linked};
