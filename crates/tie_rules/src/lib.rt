@@ -1,4 +1,6 @@
 // The table of ties: which columns of which codes define a key or refer to one, keys as numbers, and what a broken tie is.
+#![tactic(auto)]
+
 pub mod keys;
 pub mod offered;
 pub mod packing;

@@ -207,6 +207,7 @@ record At (l : List ℕ) (x : ℕ) : Type 0 where
   is : get_or l place 81 ≡ x
 
 at_of : (l : List ℕ) (x : ℕ) → Memᴰ x l → At l x
+at_of [] x x3 = elim x3 [ ]
 at_of (y ∷ l) x (Memᴰ.head e) = record { place = 0; inside = omega arith; is = sym e }
 at_of (y ∷ l) x (Memᴰ.tail m) =
     let a = at_of l x m in
