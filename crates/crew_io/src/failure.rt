@@ -1,7 +1,7 @@
 // The line that a program says on standard error where it could not read or write.
 use std::fmt;
 use std::fmt::Write;
-use std::io::{Error, Print, Stderr};
+use std::io::{Error, Stderr};
 
 // Room for the system's words and the number that std puts behind them.
 const ROOM: usize = 128;

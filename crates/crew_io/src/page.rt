@@ -1,7 +1,7 @@
 // A page for people: bytes, numbers and cards collected in a lent buffer that is written out whenever it is full.
 use base_digits::filling;
 use format_layout::{BLANK, CARD, CODE};
-use std::io::{Error, ErrorKind, Print, Stdout};
+use std::io::{Error, ErrorKind, Stdout};
 use value_text::printable::LAST;
 use value_text::text;
 

@@ -1,7 +1,7 @@
 // The answers, written as they come. Not collected in a page: a function that is lent one and hands on its end takes the prover
 // four times as long.
 
-use std::io::{Print, Stdout};
+use std::io::Stdout;
 
 // Writes bytes as they are; where that fails, what was written is not the answer that is stored.
 pub fn words(to: Stdout, s: &[u8]) {
