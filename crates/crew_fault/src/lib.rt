@@ -3,6 +3,7 @@ pub mod names;
 pub mod places;
 
 use crew_io::page;
+use crew_io::page::Page;
 use format_layout::fields;
 use format_layout::names::H00X8;
 use header_check::forms;
@@ -21,7 +22,7 @@ fn unmarked(number: u64) -> u64 {
 }
 
 // Puts what stands before the place with a number, from 0, of several.
-fn push_join(out: &mut [u8], n: usize, told: usize, times: usize) -> usize {
+fn push_join(out: &mut Page<'_>, n: usize, told: usize, times: usize) -> usize {
     if told == 0 {
         return n;
     }
@@ -36,7 +37,7 @@ fn push_join(out: &mut [u8], n: usize, told: usize, times: usize) -> usize {
 
 // Puts a place, behind those that are told already.
 fn push_place(
-    out: &mut [u8],
+    out: &mut Page<'_>,
     n: usize,
     header: &[u8],
     place: usize,
@@ -51,7 +52,7 @@ fn push_place(
 
 // Puts a place where it is one to be told.
 fn push_place_if(
-    out: &mut [u8],
+    out: &mut Page<'_>,
     n: usize,
     hit: bool,
     header: &[u8],
@@ -86,7 +87,7 @@ fn told_of(times: usize) -> usize {
 
 // Puts the places of a key, all but one, behind those that are told already.
 fn push_places(
-    out: &mut [u8],
+    out: &mut Page<'_>,
     n: usize,
     header: &[u8],
     keys: &[u64],
@@ -109,7 +110,7 @@ fn push_places(
 }
 
 // Puts how many places are not told.
-fn push_rest(out: &mut [u8], n: usize, times: usize) -> usize {
+fn push_rest(out: &mut Page<'_>, n: usize, times: usize) -> usize {
     let limit = told_of(times);
     if times <= limit {
         return n;
@@ -125,7 +126,7 @@ fn push_rest(out: &mut [u8], n: usize, times: usize) -> usize {
 }
 
 // Puts the vessel of an entry in brackets, where there is one.
-fn push_of_vessel(out: &mut [u8], n: usize, vessel: u32) -> usize {
+fn push_of_vessel(out: &mut Page<'_>, n: usize, vessel: u32) -> usize {
     if vessel < NO_VESSEL as u32 {
         return page::push_form(out, n, b" (vessel #)", vessel as u64, 0, 0);
     }
@@ -133,14 +134,14 @@ fn push_of_vessel(out: &mut [u8], n: usize, vessel: u32) -> usize {
 }
 
 // Puts what is named, and of which vessel the card is that names it.
-fn push_named(out: &mut [u8], n: usize, key: u64, vessel: u32) -> usize {
+fn push_named(out: &mut Page<'_>, n: usize, key: u64, vessel: u32) -> usize {
     let thing = names::push_thing(out, n, key);
     let used = names::push_use(out, thing, key);
     push_of_vessel(out, used, vessel)
 }
 
 // Kind 1: what is named, and which card there is none of.
-fn push_undefined(out: &mut [u8], n: usize, key: u64, vessel: u32) -> usize {
+fn push_undefined(out: &mut Page<'_>, n: usize, key: u64, vessel: u32) -> usize {
     let named = push_named(out, n, key, vessel);
     let none = page::push_all(out, named, b", and no ");
     let code = names::push_definers(out, none, key);
@@ -149,7 +150,7 @@ fn push_undefined(out: &mut [u8], n: usize, key: u64, vessel: u32) -> usize {
 
 // Kind 2: what is defined, how often, and where else.
 fn push_redefined(
-    out: &mut [u8],
+    out: &mut Page<'_>,
     n: usize,
     header: &[u8],
     keys: &[u64],
@@ -169,7 +170,7 @@ fn push_redefined(
 
 // Kind 3: what is named, how often it is defined, and where.
 fn push_ambiguous(
-    out: &mut [u8],
+    out: &mut Page<'_>,
     n: usize,
     header: &[u8],
     keys: &[u64],
@@ -186,7 +187,7 @@ fn push_ambiguous(
 }
 
 // Kind 4 on a card that states its vessel: the digit in the code, and the one in the column.
-fn push_own(out: &mut [u8], n: usize, card: &[u8], layout: usize, column: usize) -> usize {
+fn push_own(out: &mut Page<'_>, n: usize, card: &[u8], layout: usize, column: usize) -> usize {
     let begun = page::push_all(out, n, b"The code ");
     let code = page::push_code(out, begun, card);
     let own = keys::vessel_of(card, layout) as u64;
@@ -196,20 +197,20 @@ fn push_own(out: &mut [u8], n: usize, card: &[u8], layout: usize, column: usize)
 }
 
 // Puts words with a card's vessel digit in them.
-fn push_vessel(out: &mut [u8], n: usize, card: &[u8], words: &[u8], number: u64) -> usize {
+fn push_vessel(out: &mut Page<'_>, n: usize, card: &[u8], words: &[u8], number: u64) -> usize {
     let vessel = keys::vessel_of(card, forms::layout_of(card)) as u64;
     page::push_form(out, n, words, vessel, number, 0)
 }
 
 // Puts a card's code in brackets, and words behind it.
-fn push_in_brackets(out: &mut [u8], n: usize, card: &[u8], words: &[u8]) -> usize {
+fn push_in_brackets(out: &mut Page<'_>, n: usize, card: &[u8], words: &[u8]) -> usize {
     let mark = page::push_all(out, n, b" (");
     let code = page::push_code(out, mark, card);
     page::push_all(out, code, words)
 }
 
 // Puts the vessel digit of the card with a number, which defines what is named.
-fn push_definition(out: &mut [u8], n: usize, header: &[u8], number: usize) -> usize {
+fn push_definition(out: &mut Page<'_>, n: usize, header: &[u8], number: usize) -> usize {
     let card = page::card_in(header, number);
     let words = b" to vessel # where it is defined, on card #";
     let place = push_vessel(out, n, card, words, number as u64);
@@ -218,7 +219,7 @@ fn push_definition(out: &mut [u8], n: usize, header: &[u8], number: usize) -> us
 
 // Kind 4 elsewhere: the digit on this card, and the one on the card that defines what is named.
 fn push_apart(
-    out: &mut [u8],
+    out: &mut Page<'_>,
     n: usize,
     header: &[u8],
     keys: &[u64],
@@ -233,7 +234,7 @@ fn push_apart(
 }
 
 // Puts a number that is found; none for 0.
-fn push_found(out: &mut [u8], n: usize, found: usize) -> usize {
+fn push_found(out: &mut Page<'_>, n: usize, found: usize) -> usize {
     if found == 0 {
         return page::push_all(out, n, b"none.");
     }
@@ -241,7 +242,7 @@ fn push_found(out: &mut [u8], n: usize, found: usize) -> usize {
 }
 
 // Kind 5 on H00@8: how many waypoints are stated, and how many are found.
-fn push_waypoints(out: &mut [u8], n: usize, keys: &[u64], card: &[u8]) -> usize {
+fn push_waypoints(out: &mut Page<'_>, n: usize, keys: &[u64], card: &[u8]) -> usize {
     let stated = unmarked(keys::whole_in(card, 79, 80));
     let vessel = unmarked(keys::whole_in(card, 30, 30));
     let count = names::push_count(out, n, stated, b"# waypoint");
@@ -251,7 +252,7 @@ fn push_waypoints(out: &mut [u8], n: usize, keys: &[u64], card: &[u8]) -> usize 
 }
 
 // Kind 5 on H0100: how many variation points are stated, and how many are found.
-fn push_points(out: &mut [u8], n: usize, keys: &[u64], card: &[u8]) -> usize {
+fn push_points(out: &mut Page<'_>, n: usize, keys: &[u64], card: &[u8]) -> usize {
     let stated = unmarked(keys::whole_in(card, 16, 19));
     let count = names::push_count(out, n, stated, b"# variation point");
     let found = page::push_all(out, count, b", and the H0101 cards define ");
@@ -260,7 +261,7 @@ fn push_points(out: &mut [u8], n: usize, keys: &[u64], card: &[u8]) -> usize {
 
 // Kind 5: the count that is stated, and the one that is found.
 fn push_miscounted(
-    out: &mut [u8],
+    out: &mut Page<'_>,
     n: usize,
     keys: &[u64],
     card: &[u8],
@@ -291,7 +292,13 @@ fn last_from(layout: usize, column: usize) -> usize {
 }
 
 // Kind 6: the columns of the number, and where it should end.
-fn push_misplaced(out: &mut [u8], n: usize, layout: usize, column: usize, vessel: u32) -> usize {
+fn push_misplaced(
+    out: &mut Page<'_>,
+    n: usize,
+    layout: usize,
+    column: usize,
+    vessel: u32,
+) -> usize {
     let last = last_from(layout, column) as u64;
     let words = b"The number in columns # to #";
     let span = page::push_form(out, n, words, column as u64, last, 0);
@@ -302,7 +309,7 @@ fn push_misplaced(out: &mut [u8], n: usize, layout: usize, column: usize, vessel
 
 // Puts the sentence of a fault.
 fn push_sentence(
-    out: &mut [u8],
+    out: &mut Page<'_>,
     n: usize,
     header: &[u8],
     keys: &[u64],
@@ -337,7 +344,7 @@ fn push_sentence(
 
 // Tells a fault of a header whose keys are noted: its card, a caret, and a sentence, each behind two blanks.
 pub fn tell_fault(
-    out: &mut [u8],
+    out: &mut Page<'_>,
     n: usize,
     header: &[u8],
     keys: &[u64],

@@ -1,5 +1,6 @@
 // What a key stands for, in the crew's words, and the codes of the cards that define it.
 use crew_io::page;
+use crew_io::page::Page;
 use header_check::forms::UNREAD;
 use tie_rules::packing::{EACH, ROOM};
 use tie_rules::{
@@ -8,7 +9,7 @@ use tie_rules::{
 };
 
 // Puts a number of things, given as # and their word, in the plural for any number but 1.
-pub fn push_count(out: &mut [u8], n: usize, number: u64, word: &[u8]) -> usize {
+pub fn push_count(out: &mut Page<'_>, n: usize, number: u64, word: &[u8]) -> usize {
     let named = page::push_form(out, n, word, number, 0, 0);
     if number == 1 {
         return named;
@@ -17,7 +18,7 @@ pub fn push_count(out: &mut [u8], n: usize, number: u64, word: &[u8]) -> usize {
 }
 
 // Puts a text that is held as a number, seven bits a byte, its first byte the lowest.
-fn push_serial(out: &mut [u8], n: usize, bits: u64) -> usize {
+fn push_serial(out: &mut Page<'_>, n: usize, bits: u64) -> usize {
     let mut end = n;
     let mut rest = bits;
     while 0 < rest {
@@ -28,7 +29,7 @@ fn push_serial(out: &mut [u8], n: usize, bits: u64) -> usize {
 }
 
 // Puts what a key stands for, as a sentence begins.
-pub fn push_thing(out: &mut [u8], n: usize, key: u64) -> usize {
+pub fn push_thing(out: &mut Page<'_>, n: usize, key: u64) -> usize {
     let value = key % ROOM;
     match key / ROOM {
         DATUMS => page::push_form(out, n, b"Datum #", value, 0, 0),
@@ -65,7 +66,7 @@ fn defines(layout: usize, class: u64) -> bool {
 
 // Puts a byte of a code; where the code leaves it open, the datum that it is, # for a digit of an observation's type, or @ for the
 // digit of a vessel.
-fn push_open(out: &mut [u8], n: usize, byte: u8, key: u64) -> usize {
+fn push_open(out: &mut Page<'_>, n: usize, byte: u8, key: u64) -> usize {
     if (byte != b'@') & (byte != b'#') {
         return page::push(out, n, byte);
     }
@@ -79,7 +80,7 @@ fn push_open(out: &mut [u8], n: usize, byte: u8, key: u64) -> usize {
 }
 
 // Puts the code of a layout, by its row in the format's table: five bytes, the last one lowest.
-fn push_pattern(out: &mut [u8], n: usize, layout: usize, key: u64) -> usize {
+fn push_pattern(out: &mut Page<'_>, n: usize, layout: usize, key: u64) -> usize {
     let word = format_layout::row_of(layout, 0);
     let a = push_open(out, n, (word / 0x1_00_00_00_00 % 256) as u8, key);
     let b = push_open(out, a, (word / 0x1_00_00_00 % 256) as u8, key);
@@ -101,7 +102,7 @@ fn defined_behind(layout: usize, class: u64) -> bool {
 }
 
 // Puts what stands before a code: nothing before the first of several.
-fn push_or(out: &mut [u8], n: usize, first: bool, more: bool) -> usize {
+fn push_or(out: &mut Page<'_>, n: usize, first: bool, more: bool) -> usize {
     if first {
         return n;
     }
@@ -112,7 +113,7 @@ fn push_or(out: &mut [u8], n: usize, first: bool, more: bool) -> usize {
 }
 
 // Puts the code of a layout that defines a key, behind those that are told already.
-fn push_if(out: &mut [u8], n: usize, hit: bool, first: bool, layout: usize, key: u64) -> usize {
+fn push_if(out: &mut Page<'_>, n: usize, hit: bool, first: bool, layout: usize, key: u64) -> usize {
     if !hit {
         return n;
     }
@@ -121,7 +122,7 @@ fn push_if(out: &mut [u8], n: usize, hit: bool, first: bool, layout: usize, key:
 }
 
 // Puts the codes of the cards that define a key.
-pub fn push_definers(out: &mut [u8], n: usize, key: u64) -> usize {
+pub fn push_definers(out: &mut Page<'_>, n: usize, key: u64) -> usize {
     let mut end = n;
     let mut first = true;
     let mut layout = 0;
@@ -135,7 +136,7 @@ pub fn push_definers(out: &mut [u8], n: usize, key: u64) -> usize {
 }
 
 // Puts what a card does with a key that another has to define.
-pub fn push_use(out: &mut [u8], n: usize, key: u64) -> usize {
+pub fn push_use(out: &mut Page<'_>, n: usize, key: u64) -> usize {
     if key / ROOM == GRID {
         return page::push_all(out, n, b" is needed here");
     }

@@ -3,7 +3,7 @@ ghost use Rattle.std.specs.Prelude.{◌≡◌, ◌≤◌, length};
 ghost use Rattle.crew_io.specs.input.Sizes.{Brings, size_of};
 
 use format_layout::{CARD, CARDS};
-use libc::STDIN_FILENO;
+use std::io::{Error, Read, Stdin};
 
 // The longest header, and one card more to notice a longer one.
 pub const ROOM: usize = (CARDS + 1) * CARD;
@@ -13,14 +13,14 @@ pub const ROOM: usize = (CARDS + 1) * CARD;
 pub enum More {
     Bytes(usize),
     End,
-    Failure,
+    Failure(Error),
 }
 
 // What standard input holds, as far as there is room for it.
 #[derive(Drop)]
 pub enum Input {
     Whole(usize),
-    Failed,
+    Failed(Error),
 }
 
 // Room for a header, made here so that only a law has to know its length.
@@ -31,35 +31,30 @@ pub fn room() -> [u8; ROOM]
 }
 
 // Reads once, behind the bytes that came before.
-fn read_more(buf: &mut [u8], done: usize) -> More
+fn read_more(mut from: Stdin, buf: &mut [u8], done: usize) -> More
     requires { done ≤ length buf.old }
     ensures { Brings result done (length buf.old) }
 {
-    let rest = &mut buf[done..];
-    let got = libc::read(STDIN_FILENO, rest);
-    if got < 0 {
-        return More::Failure;
+    match from.read(&mut buf[done..]) {
+        Ok(0) => More::End,
+        Ok(n) => More::Bytes(n),
+        Err(why) => More::Failure(why),
     }
-    let n = io::count(got, rest);
-    if n == 0 {
-        return More::End;
-    }
-    More::Bytes(n)
 }
 
 // Reads until the input ends or the buffer is full.
-pub fn read_all(buf: &mut [u8]) -> Input
+pub fn read_all(from: Stdin, buf: &mut [u8]) -> Input
     ensures { size_of result ≤ length buf.old }
 {
     let mut done = 0;
     while done < buf.len() {
-        let more = read_more(buf, done);
+        let more = read_more(from, buf, done);
         match more {
             More::Bytes(n) => {
                 done += n;
             }
             More::End => return Input::Whole(done),
-            More::Failure => return Input::Failed,
+            More::Failure(why) => return Input::Failed(why),
         }
     }
     Input::Whole(done)

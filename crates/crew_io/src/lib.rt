@@ -1,3 +1,7 @@
-// What the crew's programs share: standard input, and a page for people.
+// What the crew's programs share: their arguments, standard input, a page for people, and the line that says what failed.
+#![tactic(auto)]
+
+pub mod argument;
+pub mod failure;
 pub mod input;
 pub mod page;

@@ -1,49 +1,72 @@
 // A page for people: bytes, numbers and cards collected in a lent buffer that is written out whenever it is full.
+use base_digits::filling;
 use format_layout::{BLANK, CARD, CODE};
+use std::io::{Error, ErrorKind, Stdout};
 use value_text::printable::LAST;
 use value_text::text;
 
 const DOT: u8 = 46;
 
-const STANDARD_OUTPUT: i32 = 1;
-
 // The end of a page that could not be written: nothing more is.
 pub const FAILED: usize = 18446744073709551615;
 
+// A page on standard output: the buffer that is lent for it, and the error of the write that failed, if one did.
+#[derive(Drop)]
+pub struct Page<'a> {
+    to: Stdout,
+    bytes: &'a mut [u8],
+    failure: Option<Error>,
+}
+
+// A page on standard output that is collected in a buffer.
+pub fn on(to: Stdout, bytes: &mut [u8]) -> Page<'_> {
+    Page {
+        to,
+        bytes,
+        failure: None,
+    }
+}
+
 // The first byte of a new page.
-fn begin(out: &mut [u8], b: u8) -> usize {
-    if out.len() == 0 {
+fn begin(out: &mut Page<'_>, b: u8) -> usize {
+    if out.bytes.len() == 0 {
         return FAILED;
     }
-    out[0] = b;
+    out.bytes[0] = b;
     1
 }
 
 // Puts a byte behind the first n, and answers how many there are then.
-pub fn push(out: &mut [u8], n: usize, b: u8) -> usize {
-    if n < out.len() {
-        out[n] = b;
+pub fn push(out: &mut Page<'_>, n: usize, b: u8) -> usize {
+    if n < out.bytes.len() {
+        out.bytes[n] = b;
         return n + 1;
     }
     if n == FAILED {
         return FAILED;
     }
-    if !io::write_all(STANDARD_OUTPUT, out) {
+    let to = out.to;
+    let written = to.write_all(out.bytes);
+    if let Err(why) = written {
+        out.failure = Some(why);
         return FAILED;
     }
     begin(out, b)
 }
 
-// Writes out what is left, and answers whether all was written.
-pub fn finish(out: &[u8], n: usize) -> bool {
-    if out.len() < n {
-        return false;
+// Writes out what is left, or answers why not all was written.
+pub fn finish(out: &Page<'_>, n: usize) -> Result<(), Error> {
+    if let Some(why) = out.failure {
+        return Err(why);
     }
-    io::write_all(STANDARD_OUTPUT, &out[..n])
+    if out.bytes.len() < n {
+        return Err(Error::from(ErrorKind::WriteZero));
+    }
+    out.to.write_all(&out.bytes[..n])
 }
 
 // Puts bytes as they are.
-pub fn push_all(out: &mut [u8], n: usize, s: &[u8]) -> usize {
+pub fn push_all(out: &mut Page<'_>, n: usize, s: &[u8]) -> usize {
     let mut end = n;
     let mut i = 0;
     while i < s.len() {
@@ -54,14 +77,15 @@ pub fn push_all(out: &mut [u8], n: usize, s: &[u8]) -> usize {
 }
 
 // Puts a number.
-pub fn push_number(out: &mut [u8], n: usize, value: u64) -> usize {
+pub fn push_number(out: &mut Page<'_>, n: usize, value: u64) -> usize {
     let mut text = [0u8; 20];
-    let k = io::decimal(value, &mut text);
+    let k = filling::size_of(value);
+    filling::fill_digits(&mut text[..k], value);
     push_all(out, n, &text[..k])
 }
 
 // Puts a byte of words, or a number in the place of a #.
-fn push_next(out: &mut [u8], n: usize, b: u8, number: u64) -> usize {
+fn push_next(out: &mut Page<'_>, n: usize, b: u8, number: u64) -> usize {
     if b == b'#' {
         return push_number(out, n, number);
     }
@@ -69,7 +93,7 @@ fn push_next(out: &mut [u8], n: usize, b: u8, number: u64) -> usize {
 }
 
 // Puts words, and the numbers in their order wherever a # stands.
-pub fn push_form(out: &mut [u8], n: usize, words: &[u8], a: u64, b: u64, c: u64) -> usize {
+pub fn push_form(out: &mut Page<'_>, n: usize, words: &[u8], a: u64, b: u64, c: u64) -> usize {
     let mut end = n;
     let mut first = a;
     let mut second = b;
@@ -95,7 +119,7 @@ fn shown(b: u8) -> u8 {
 }
 
 // Puts bytes so that they can be read: a dot for each that is not printable.
-pub fn push_shown(out: &mut [u8], n: usize, s: &[u8]) -> usize {
+pub fn push_shown(out: &mut Page<'_>, n: usize, s: &[u8]) -> usize {
     let mut end = n;
     let mut i = 0;
     while i < s.len() {
@@ -106,7 +130,7 @@ pub fn push_shown(out: &mut [u8], n: usize, s: &[u8]) -> usize {
 }
 
 // Puts a number of blanks.
-fn push_blanks(out: &mut [u8], n: usize, count: usize) -> usize {
+fn push_blanks(out: &mut Page<'_>, n: usize, count: usize) -> usize {
     let mut end = n;
     let mut i = 0;
     while i < count {
@@ -117,7 +141,7 @@ fn push_blanks(out: &mut [u8], n: usize, count: usize) -> usize {
 }
 
 // Puts a caret under a column; no line at all where there is no such column.
-fn push_caret(out: &mut [u8], n: usize, column: usize) -> usize {
+fn push_caret(out: &mut Page<'_>, n: usize, column: usize) -> usize {
     if column == 0 {
         return n;
     }
@@ -141,7 +165,7 @@ pub fn card_in(header: &[u8], card: usize) -> &[u8] {
 }
 
 // Puts a card as it stands, without the blanks at its end, and a caret under a column.
-pub fn push_card(out: &mut [u8], n: usize, card: &[u8], column: usize) -> usize {
+pub fn push_card(out: &mut Page<'_>, n: usize, card: &[u8], column: usize) -> usize {
     let from = push_all(out, n, b"  ");
     let end = push_shown(out, from, text::stretch(card));
     let line = push(out, end, b'\n');
@@ -149,7 +173,7 @@ pub fn push_card(out: &mut [u8], n: usize, card: &[u8], column: usize) -> usize 
 }
 
 // Puts a card's code.
-pub fn push_code(out: &mut [u8], n: usize, card: &[u8]) -> usize {
+pub fn push_code(out: &mut Page<'_>, n: usize, card: &[u8]) -> usize {
     if card.len() < CODE {
         return n;
     }

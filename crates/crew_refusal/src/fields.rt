@@ -1,6 +1,7 @@
 // What a field asks for, told where its columns are refused with 9, 10 or 11.
 use crate::malformed;
 use crew_io::page;
+use crew_io::page::Page;
 use format_layout::names::H00X9;
 use format_layout::{Field, Form, Found, Kind, Range, fields};
 
@@ -27,7 +28,7 @@ fn number_at(layout: usize, column: usize) -> usize {
 }
 
 // Puts the numbers from one to another.
-fn push_between(out: &mut [u8], n: usize, low: u64, high: u64) -> usize {
+fn push_between(out: &mut Page<'_>, n: usize, low: u64, high: u64) -> usize {
     if (low == 0) & (high == 1) {
         return page::push_all(out, n, b" has to be 0 or 1.");
     }
@@ -35,7 +36,7 @@ fn push_between(out: &mut [u8], n: usize, low: u64, high: u64) -> usize {
 }
 
 // Puts the numbers that a range has.
-fn push_range(out: &mut [u8], n: usize, range: Range) -> usize {
+fn push_range(out: &mut Page<'_>, n: usize, range: Range) -> usize {
     match range {
         Range::Any => page::push_all(out, n, b" is too large."),
         Range::AtLeast(low) => page::push_form(out, n, b" has to be # or more.", low, 0, 0),
@@ -45,7 +46,7 @@ fn push_range(out: &mut [u8], n: usize, range: Range) -> usize {
 }
 
 // Puts the word for a field of a kind whose value can be out of range.
-fn push_value(out: &mut [u8], n: usize, kind: Kind) -> usize {
+fn push_value(out: &mut Page<'_>, n: usize, kind: Kind) -> usize {
     match kind {
         Kind::Date => page::push_all(out, n, b"The date in "),
         Kind::Latitude => page::push_all(out, n, b"The latitude in "),
@@ -55,7 +56,7 @@ fn push_value(out: &mut [u8], n: usize, kind: Kind) -> usize {
 }
 
 // 10: what the value has to be.
-fn push_outside(out: &mut [u8], n: usize, f: Field) -> usize {
+fn push_outside(out: &mut Page<'_>, n: usize, f: Field) -> usize {
     let kind = f.kind;
     let range = f.range;
     let first = f.first;
@@ -79,7 +80,7 @@ fn push_outside(out: &mut [u8], n: usize, f: Field) -> usize {
 }
 
 // Puts what the second set of a card is.
-fn push_second(out: &mut [u8], n: usize, layout: usize) -> usize {
+fn push_second(out: &mut Page<'_>, n: usize, layout: usize) -> usize {
     if layout == H00X9 {
         return page::push_all(out, n, b"The second waypoint needs its number in ");
     }
@@ -87,7 +88,7 @@ fn push_second(out: &mut [u8], n: usize, layout: usize) -> usize {
 }
 
 // 11: which columns are blank.
-fn push_missing(out: &mut [u8], n: usize, f: Field, layout: usize) -> usize {
+fn push_missing(out: &mut Page<'_>, n: usize, f: Field, layout: usize) -> usize {
     let first = f.first;
     let last = f.last;
     if f.second {
@@ -101,7 +102,7 @@ fn push_missing(out: &mut [u8], n: usize, f: Field, layout: usize) -> usize {
 
 // Puts what is wrong with the field of a layout that begins in a column, by its card's form and the number of the refusal.
 pub fn push_field(
-    out: &mut [u8],
+    out: &mut Page<'_>,
     n: usize,
     layout: usize,
     form: Form,

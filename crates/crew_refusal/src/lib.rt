@@ -4,6 +4,7 @@ pub mod malformed;
 
 use base_refusal::Refusal;
 use crew_io::page;
+use crew_io::page::Page;
 use format_layout::names::{H00X8, H00X9};
 use format_layout::{CARDS, Form, label};
 use header_check::forms;
@@ -17,7 +18,7 @@ const EBCDIC_H: u8 = 0xc8;
 const EBCDIC_0: u8 = 0xf0;
 
 // 2: how long the header is.
-fn push_length(out: &mut [u8], n: usize, header: &[u8]) -> usize {
+fn push_length(out: &mut Page<'_>, n: usize, header: &[u8]) -> usize {
     if header.len() == 1 {
         let words = b"The length, 1 byte, is not a whole number of cards of 80 columns.";
         return page::push_all(out, n, words);
@@ -27,7 +28,7 @@ fn push_length(out: &mut [u8], n: usize, header: &[u8]) -> usize {
 }
 
 // Puts what the usual bytes are that are not printable.
-fn push_byte_name(out: &mut [u8], n: usize, b: u8) -> usize {
+fn push_byte_name(out: &mut Page<'_>, n: usize, b: u8) -> usize {
     match b {
         9 => page::push_all(out, n, b", a tab"),
         10 => page::push_all(out, n, b", a line end"),
@@ -37,7 +38,7 @@ fn push_byte_name(out: &mut [u8], n: usize, b: u8) -> usize {
 }
 
 // Puts what helps where the byte is of a line end.
-fn push_line_end(out: &mut [u8], n: usize, b: u8) -> usize {
+fn push_line_end(out: &mut Page<'_>, n: usize, b: u8) -> usize {
     if (b == 10) | (b == 13) {
         return page::push_all(
             out,
@@ -49,7 +50,7 @@ fn push_line_end(out: &mut [u8], n: usize, b: u8) -> usize {
 }
 
 // 4: which byte it is.
-fn push_unprintable(out: &mut [u8], n: usize, card: &[u8], column: usize) -> usize {
+fn push_unprintable(out: &mut Page<'_>, n: usize, card: &[u8], column: usize) -> usize {
     let byte = byte_in(card, column);
     let words = b"The byte in column # is no printable ASCII character: its value is #";
     let value = page::push_form(out, n, words, column as u64, byte as u64, 0);
@@ -67,14 +68,14 @@ fn byte_in(card: &[u8], column: usize) -> u8 {
 }
 
 // 5: what stands where the code should.
-fn push_unknown(out: &mut [u8], n: usize, card: &[u8]) -> usize {
+fn push_unknown(out: &mut Page<'_>, n: usize, card: &[u8]) -> usize {
     let quote = page::push(out, n, b'"');
     let code = page::push_code(out, quote, card);
     page::push_all(out, code, b"\" is no code of a header card.")
 }
 
 // Puts what has to stand at a place of the opening block.
-fn push_expected(out: &mut [u8], n: usize, place: usize) -> usize {
+fn push_expected(out: &mut Page<'_>, n: usize, place: usize) -> usize {
     if place == 0 {
         return n;
     }
@@ -104,7 +105,7 @@ fn place_behind(header: &[u8], number: usize, place: usize) -> usize {
 }
 
 // Puts behind which card an H00@8 or H00@9 belongs.
-fn push_behind(out: &mut [u8], n: usize, header: &[u8], card: &[u8], place: usize) -> usize {
+fn push_behind(out: &mut Page<'_>, n: usize, header: &[u8], card: &[u8], place: usize) -> usize {
     let before = place_behind(header, header_check::code_number(card), place);
     let words = b"it has to stand directly behind card #, ";
     let begun = page::push_form(out, n, words, before as u64, 0, 0);
@@ -113,7 +114,7 @@ fn push_behind(out: &mut [u8], n: usize, header: &[u8], card: &[u8], place: usiz
 }
 
 // Puts what is missing before a card that stands behind H0007, or where it has to stand.
-fn push_home(out: &mut [u8], n: usize, header: &[u8], card: &[u8], place: usize) -> usize {
+fn push_home(out: &mut Page<'_>, n: usize, header: &[u8], card: &[u8], place: usize) -> usize {
     let layout = forms::layout_of(card);
     if layout < OPENING {
         let words = b"it stands once, as card #.";
@@ -126,7 +127,7 @@ fn push_home(out: &mut [u8], n: usize, header: &[u8], card: &[u8], place: usize)
 }
 
 // 6: which card has to stand here, or where this one has to stand.
-fn push_misplaced(out: &mut [u8], n: usize, header: &[u8], card: &[u8], place: usize) -> usize {
+fn push_misplaced(out: &mut Page<'_>, n: usize, header: &[u8], card: &[u8], place: usize) -> usize {
     if card.len() == 0 {
         let begun = page::push_all(out, n, b"The header ends before its opening cards do: ");
         return push_expected(out, begun, place);
@@ -140,7 +141,7 @@ fn push_misplaced(out: &mut [u8], n: usize, header: &[u8], card: &[u8], place: u
 }
 
 // 7: which column it is, and of which card.
-fn push_gap(out: &mut [u8], n: usize, card: &[u8], column: usize) -> usize {
+fn push_gap(out: &mut Page<'_>, n: usize, card: &[u8], column: usize) -> usize {
     let words = b"Column # belongs to no field of ";
     let place = page::push_form(out, n, words, column as u64, 0, 0);
     let code = page::push_code(out, place, card);
@@ -148,7 +149,7 @@ fn push_gap(out: &mut [u8], n: usize, card: &[u8], column: usize) -> usize {
 }
 
 // Puts the label of a layout.
-fn push_label(out: &mut [u8], n: usize, layout: usize) -> usize {
+fn push_label(out: &mut Page<'_>, n: usize, layout: usize) -> usize {
     let size = label::label_length(layout);
     let mut end = n;
     let mut i = 0;
@@ -160,7 +161,7 @@ fn push_label(out: &mut [u8], n: usize, layout: usize) -> usize {
 }
 
 // 8: what the label has to be.
-fn push_mislabelled(out: &mut [u8], n: usize, card: &[u8]) -> usize {
+fn push_mislabelled(out: &mut Page<'_>, n: usize, card: &[u8]) -> usize {
     let words = page::push_all(out, n, b"The label of ");
     let code = page::push_code(out, words, card);
     let quote = page::push_all(out, code, b" has to be \"");
@@ -177,7 +178,7 @@ fn form_of(header: &[u8], card: &[u8], layout: usize) -> Form {
 
 // 9, 10 and 11: what the field asks for.
 fn push_field(
-    out: &mut [u8],
+    out: &mut Page<'_>,
     n: usize,
     header: &[u8],
     card: &[u8],
@@ -191,7 +192,7 @@ fn push_field(
 
 // Puts the sentence of a refusal by a program that takes so many cards.
 fn push_reason(
-    out: &mut [u8],
+    out: &mut Page<'_>,
     n: usize,
     header: &[u8],
     number: usize,
@@ -221,7 +222,7 @@ fn push_reason(
 }
 
 // Puts the card of a refusal with a caret, where there is one.
-fn push_card_if(out: &mut [u8], n: usize, card: &[u8], column: usize) -> usize {
+fn push_card_if(out: &mut Page<'_>, n: usize, card: &[u8], column: usize) -> usize {
     if card.len() == 0 {
         return n;
     }
@@ -229,7 +230,7 @@ fn push_card_if(out: &mut [u8], n: usize, card: &[u8], column: usize) -> usize {
 }
 
 // Puts what to do with a tape in EBCDIC, if the header looks like one.
-fn push_tape(out: &mut [u8], n: usize, header: &[u8]) -> usize {
+fn push_tape(out: &mut Page<'_>, n: usize, header: &[u8]) -> usize {
     if base_lists::byte_at(header, 0) != EBCDIC_H {
         return n;
     }
@@ -242,7 +243,7 @@ fn push_tape(out: &mut [u8], n: usize, header: &[u8]) -> usize {
 
 // Tells why a header is refused by a program that takes so many cards: its card, a caret, and a sentence, each behind two blanks.
 pub fn tell_refusal(
-    out: &mut [u8],
+    out: &mut Page<'_>,
     n: usize,
     header: &[u8],
     refusal: Refusal,

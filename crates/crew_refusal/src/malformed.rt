@@ -1,9 +1,10 @@
 // What the columns of a field have to hold, told where they do not (9).
 use crew_io::page;
+use crew_io::page::Page;
 use format_layout::{Field, Form, Kind};
 
 // Puts a field's columns, the first letter as it is given.
-pub fn push_span(out: &mut [u8], n: usize, letter: u8, first: usize, last: usize) -> usize {
+pub fn push_span(out: &mut Page<'_>, n: usize, letter: u8, first: usize, last: usize) -> usize {
     let begun = page::push(out, n, letter);
     if first == last {
         return page::push_form(out, begun, b"olumn #", first as u64, 0, 0);
@@ -12,7 +13,7 @@ pub fn push_span(out: &mut [u8], n: usize, letter: u8, first: usize, last: usize
 }
 
 // Puts that a field's columns do not hold what follows.
-fn push_lacks(out: &mut [u8], n: usize, first: usize, last: usize) -> usize {
+fn push_lacks(out: &mut Page<'_>, n: usize, first: usize, last: usize) -> usize {
     let span = push_span(out, n, b'C', first, last);
     if first == last {
         return page::push_all(out, span, b" does not hold ");
@@ -21,7 +22,7 @@ fn push_lacks(out: &mut [u8], n: usize, first: usize, last: usize) -> usize {
 }
 
 // Puts a whole number, which is a digit where there is one column only.
-fn push_whole(out: &mut [u8], n: usize, first: usize, last: usize) -> usize {
+fn push_whole(out: &mut Page<'_>, n: usize, first: usize, last: usize) -> usize {
     if first == last {
         return page::push_all(out, n, b"a digit.");
     }
@@ -30,7 +31,7 @@ fn push_whole(out: &mut [u8], n: usize, first: usize, last: usize) -> usize {
 
 // Puts a coordinate: words for an angle, or for a number that ends before the last column.
 fn push_coordinate(
-    out: &mut [u8],
+    out: &mut Page<'_>,
     n: usize,
     form: Form,
     last: usize,
@@ -48,7 +49,7 @@ fn push_coordinate(
 
 // Puts what a field has to hold.
 fn push_wanted(
-    out: &mut [u8],
+    out: &mut Page<'_>,
     n: usize,
     kind: Kind,
     first: usize,
@@ -81,7 +82,7 @@ fn push_wanted(
 }
 
 // 9 in a text: it does not begin where it has to.
-fn push_late(out: &mut [u8], n: usize, first: usize, last: usize) -> usize {
+fn push_late(out: &mut Page<'_>, n: usize, first: usize, last: usize) -> usize {
     let words = page::push_all(out, n, b"The text in ");
     let span = push_span(out, words, b'c', first, last);
     page::push_form(
@@ -103,7 +104,7 @@ fn is_text(kind: Kind) -> bool {
 }
 
 // 9: what the columns do not hold.
-pub fn push_malformed(out: &mut [u8], n: usize, f: Field, form: Form) -> usize {
+pub fn push_malformed(out: &mut Page<'_>, n: usize, f: Field, form: Form) -> usize {
     let first = f.first;
     let last = f.last;
     let kind = f.kind;

@@ -1,26 +1,25 @@
 // The crew's program: reads a header from standard input, and writes what the check says of it.
 use crew_answer::lines;
-use crew_io::input;
 use crew_io::input::Input;
-use libc::STDOUT_FILENO;
+use crew_io::{failure, input};
 
 // The longest header that the program takes, and one card more to notice a longer one.
 const ROOM: usize = 64080;
 
 // Writes the answer to a header in one go.
-fn reply(header: &[u8]) {
+fn reply(rt: &HostRuntime, header: &[u8]) {
     let mut out = [0u8; lines::LONGEST];
     let n = crew_answer::tell(header, &mut out);
-    if !io::write_all(STDOUT_FILENO, &out[..n]) {
-        os::fail(b"linecheck: standard output");
+    if let Err(why) = rt.write_all(&out[..n]) {
+        failure::tell(rt.stderr(), b"linecheck: standard output", why);
     }
 }
 
-fn main() {
+fn main(rt: HostRuntime) {
     let mut buf = [0u8; ROOM];
-    let input = input::read_all(&mut buf);
+    let input = input::read_all(rt.stdin(), &mut buf);
     match input {
-        Input::Whole(n) => reply(&buf[..n]),
-        Input::Failed => os::fail(b"linecheck: standard input"),
+        Input::Whole(n) => reply(&rt, &buf[..n]),
+        Input::Failed(why) => failure::tell(rt.stderr(), b"linecheck: standard input", why),
     }
 }

@@ -2,9 +2,8 @@
 mod words;
 
 use base_refusal::{Refusal, TOO_MANY, refuse};
-use crew_io::input;
 use crew_io::input::Input;
-use libc::STDOUT_FILENO;
+use crew_io::{argument, failure, input};
 use media_diskette::Converted;
 use media_ebcdic::Translated;
 
@@ -51,9 +50,9 @@ fn form_of(word: &[u8]) -> Form {
 }
 
 // Writes what was converted.
-fn write(out: &[u8]) {
-    if !io::write_all(STDOUT_FILENO, out) {
-        os::fail(b"lineform: standard output");
+fn write(rt: &HostRuntime, out: &[u8]) {
+    if let Err(why) = rt.write_all(out) {
+        failure::tell(rt.stderr(), b"lineform: standard output", why);
     }
 }
 
@@ -66,12 +65,12 @@ fn cards_in(input: &[u8]) -> &[u8] {
 }
 
 // Writes cards as a diskette file.
-fn to_disk(input: &[u8]) {
+fn to_disk(rt: &HostRuntime, input: &[u8]) {
     let mut out = [0u8; FILE];
     let done = media_diskette::to_diskette(cards_in(input), &mut out);
     match done {
-        Converted::Length(n) => write(&out[..n]),
-        Converted::Refused(r) => words::tell(r, b"card "),
+        Converted::Length(n) => write(rt, &out[..n]),
+        Converted::Refused(r) => words::tell(rt.stderr(), r, b"card "),
     }
 }
 
@@ -85,54 +84,57 @@ fn within(r: Refusal) -> Refusal {
 }
 
 // Writes a diskette file as cards.
-fn to_cards(input: &[u8]) {
+fn to_cards(rt: &HostRuntime, input: &[u8]) {
     let mut out = [0u8; HEADER];
     let done = media_diskette::from_diskette(input, &mut out);
     match done {
-        Converted::Length(n) => write(&out[..n]),
-        Converted::Refused(r) => words::tell(within(r), b"line "),
+        Converted::Length(n) => write(rt, &out[..n]),
+        Converted::Refused(r) => words::tell(rt.stderr(), within(r), b"line "),
     }
 }
 
 // Writes a tape in EBCDIC as ASCII.
-fn to_ascii(input: &[u8]) {
+fn to_ascii(rt: &HostRuntime, input: &[u8]) {
     let mut out = [0u8; FILE];
     let done = media_ebcdic::to_ascii(input, &mut out);
     match done {
-        Translated::Done(n) => write(&out[..n]),
-        Translated::Refused(r) => words::tell(r, b""),
+        Translated::Done(n) => write(rt, &out[..n]),
+        Translated::Refused(r) => words::tell(rt.stderr(), r, b""),
     }
 }
 
 // Writes a text in ASCII as EBCDIC.
-fn to_ebcdic(input: &[u8]) {
+fn to_ebcdic(rt: &HostRuntime, input: &[u8]) {
     let mut out = [0u8; FILE];
     let done = media_ebcdic::to_ebcdic(input, &mut out);
     match done {
-        Translated::Done(n) => write(&out[..n]),
-        Translated::Refused(r) => words::tell(r, b""),
+        Translated::Done(n) => write(rt, &out[..n]),
+        Translated::Refused(r) => words::tell(rt.stderr(), r, b""),
     }
 }
 
 // Writes the input in a form.
-fn convert(form: Form, input: &[u8]) {
+fn convert(rt: &HostRuntime, form: Form, input: &[u8]) {
     match form {
-        Form::Disk => to_disk(input),
-        Form::Cards => to_cards(input),
-        Form::Ascii => to_ascii(input),
-        Form::Ebcdic => to_ebcdic(input),
-        Form::Other => words::say(b"lineform: usage: lineform disk|cards|ascii|ebcdic\n"),
+        Form::Disk => to_disk(rt, input),
+        Form::Cards => to_cards(rt, input),
+        Form::Ascii => to_ascii(rt, input),
+        Form::Ebcdic => to_ebcdic(rt, input),
+        Form::Other => words::say(
+            rt.stderr(),
+            b"lineform: usage: lineform disk|cards|ascii|ebcdic\n",
+        ),
     }
 }
 
-fn main() {
+fn main(rt: HostRuntime) {
     let mut word = [0u8; WORD];
-    let size = os::arg(1, &mut word);
+    let size = argument::word(&rt, 1, &mut word);
     let form = form_of(&word[..size]);
     let mut buf = [0u8; ROOM];
-    let input = input::read_all(&mut buf);
+    let input = input::read_all(rt.stdin(), &mut buf);
     match input {
-        Input::Whole(n) => convert(form, &buf[..n]),
-        Input::Failed => os::fail(b"lineform: standard input"),
+        Input::Whole(n) => convert(&rt, form, &buf[..n]),
+        Input::Failed(why) => failure::tell(rt.stderr(), b"lineform: standard input", why),
     }
 }

@@ -4,9 +4,8 @@ mod words;
 
 use base_digits::digits;
 use base_value::{Decimal, Reading, Value};
-use crew_io::input;
 use crew_io::input::Input;
-use libc::STDOUT_FILENO;
+use crew_io::{argument, failure, input};
 use survey_compass::Heading;
 use value_number::{number, number_entry};
 
@@ -36,60 +35,69 @@ fn number_in(word: &[u8], pointed: bool) -> Given {
 }
 
 // The number that an argument is.
-fn argument(place: usize, pointed: bool) -> Given {
+fn argument(rt: &HostRuntime, place: usize, pointed: bool) -> Given {
     let mut word = [0u8; WORD];
-    let size = os::arg(place, &mut word);
+    let size = argument::word(rt, place, &mut word);
     number_in(&word[..size], pointed)
 }
 
 // Writes what stands in columns behind their blanks, and a line end.
-fn print(columns: &[u8]) {
+fn print(rt: &HostRuntime, columns: &[u8]) {
     let from = digits::padding(columns);
-    let number = io::write_all(STDOUT_FILENO, &columns[from..]);
-    let end = io::write_all(STDOUT_FILENO, b"\n");
-    if !(number & end) {
-        os::fail(b"lineheading: standard output");
+    let number = rt.write_all(&columns[from..]);
+    let end = rt.write_all(b"\n");
+    if let Err(why) = end.and(number) {
+        failure::tell(rt.stderr(), b"lineheading: standard output", why);
     }
 }
 
 // Writes a heading with all its places.
-fn write(heading: Decimal) {
+fn write(rt: &HostRuntime, heading: Decimal) {
     let mut columns = [0u8; COLUMNS];
     number_entry::write_decimal(&mut columns, heading);
-    print(&columns);
+    print(rt, &columns);
 }
 
 // Writes a heading, or says why there is none.
-fn tell(heading: Heading) {
+fn tell(rt: &HostRuntime, heading: Heading) {
     match heading {
-        Heading::Is(d) => write(d),
-        Heading::Refused(r) => words::tell(r),
+        Heading::Is(d) => write(rt, d),
+        Heading::Refused(r) => words::tell(rt.stderr(), r),
     }
 }
 
 // Answers for a header.
-fn answer(header: &[u8]) {
-    let raw = argument(2, true);
+fn answer(rt: &HostRuntime, header: &[u8]) {
+    let raw = argument(rt, 2, true);
     let Given::Number(raw) = raw else {
-        words::say(b"lineheading: the raw reading is no number, like 123.45\n");
+        words::say(
+            rt.stderr(),
+            b"lineheading: the raw reading is no number, like 123.45\n",
+        );
         return;
     };
-    let direction = argument(3, false);
+    let direction = argument(rt, 3, false);
     let Given::Number(direction) = direction else {
-        words::say(b"lineheading: the direction is no whole number, like 90\n");
+        words::say(
+            rt.stderr(),
+            b"lineheading: the direction is no whole number, like 90\n",
+        );
         return;
     };
     let mut serial = [0u8; WORD];
-    let size = os::arg(1, &mut serial);
+    let size = argument::word(rt, 1, &mut serial);
     let whole = direction.units;
-    tell(survey_compass::find_heading(header, &serial[..size], raw, whole));
+    tell(
+        rt,
+        survey_compass::find_heading(header, &serial[..size], raw, whole),
+    );
 }
 
-fn main() {
+fn main(rt: HostRuntime) {
     let mut buf = input::room();
-    let input = input::read_all(&mut buf);
+    let input = input::read_all(rt.stdin(), &mut buf);
     match input {
-        Input::Whole(n) => answer(&buf[..n]),
-        Input::Failed => os::fail(b"lineheading: standard input"),
+        Input::Whole(n) => answer(&rt, &buf[..n]),
+        Input::Failed(why) => failure::tell(rt.stderr(), b"lineheading: standard input", why),
     }
 }

@@ -3,14 +3,15 @@ ghost use Rattle.std.specs.Prelude.{◌<◌};
 
 use base_refusal::{DATUM_TWICE, Refusal};
 use crew_io::input::Input;
-use crew_io::{input, page};
+use crew_io::page::Page;
+use crew_io::{failure, input, page};
 use survey_datums::routing::{CARDS, DATUMS, NO_ROUTE, SHIFTS};
 use survey_datums::{Answer, UNDEFINED};
 
 const PAGE: usize = 4096;
 
 // Shows why no routes are told.
-fn show_refused(out: &mut [u8], header: &[u8], refusal: Refusal) -> usize {
+fn show_refused(out: &mut Page<'_>, header: &[u8], refusal: Refusal) -> usize {
     let number = refusal.number;
     let card = refusal.card;
     let column = refusal.column;
@@ -39,13 +40,19 @@ fn far_end(card: &[u8], datum: u8) -> u8 {
 }
 
 // Puts a step of a route: its card, and the datum that it leads to.
-fn push_step(out: &mut [u8], n: usize, card: u32, datum: u8) -> usize {
+fn push_step(out: &mut Page<'_>, n: usize, card: u32, datum: u8) -> usize {
     let by = page::push_form(out, n, b" =#=> ", card as u64, 0, 0);
     page::push(out, by, datum)
 }
 
 // Puts the steps of the route from a datum.
-fn push_route(out: &mut [u8], n: usize, header: &[u8], cards: [u32; CARDS], datum: usize) -> usize
+fn push_route(
+    out: &mut Page<'_>,
+    n: usize,
+    header: &[u8],
+    cards: [u32; CARDS],
+    datum: usize,
+) -> usize
     requires { datum < 9 }
 {
     let mut end = n;
@@ -65,7 +72,7 @@ fn push_route(out: &mut [u8], n: usize, header: &[u8], cards: [u32; CARDS], datu
 
 // Puts what is told of a datum that is defined.
 fn push_datum(
-    out: &mut [u8],
+    out: &mut Page<'_>,
     n: usize,
     header: &[u8],
     shifts: u8,
@@ -88,7 +95,12 @@ fn push_datum(
 }
 
 // Shows the routes of all datums.
-fn show_routes(out: &mut [u8], header: &[u8], shifts: [u8; DATUMS], cards: [u32; CARDS]) -> usize {
+fn show_routes(
+    out: &mut Page<'_>,
+    header: &[u8],
+    shifts: [u8; DATUMS],
+    cards: [u32; CARDS],
+) -> usize {
     let mut end = 0;
     let mut datum = 0;
     while datum < DATUMS {
@@ -99,7 +111,7 @@ fn show_routes(out: &mut [u8], header: &[u8], shifts: [u8; DATUMS], cards: [u32;
 }
 
 // Finds a header's routes, and shows them.
-fn show(out: &mut [u8], header: &[u8]) -> usize {
+fn show(out: &mut Page<'_>, header: &[u8]) -> usize {
     let routes = survey_datums::find_routes(header);
     let shifts = routes.shifts;
     let cards = routes.cards;
@@ -111,19 +123,20 @@ fn show(out: &mut [u8], header: &[u8]) -> usize {
 }
 
 // Shows a header's routes on standard output.
-fn reply(header: &[u8]) {
-    let mut out = [0u8; PAGE];
+fn reply(rt: &HostRuntime, header: &[u8]) {
+    let mut bytes = [0u8; PAGE];
+    let mut out = page::on(rt.stdout(), &mut bytes);
     let n = show(&mut out, header);
-    if !page::finish(&out, n) {
-        os::fail(b"lineroutes: standard output");
+    if let Err(why) = page::finish(&out, n) {
+        failure::tell(rt.stderr(), b"lineroutes: standard output", why);
     }
 }
 
-fn main() {
+fn main(rt: HostRuntime) {
     let mut buf = input::room();
-    let input = input::read_all(&mut buf);
+    let input = input::read_all(rt.stdin(), &mut buf);
     match input {
-        Input::Whole(n) => reply(&buf[..n]),
-        Input::Failed => os::fail(b"lineroutes: standard input"),
+        Input::Whole(n) => reply(&rt, &buf[..n]),
+        Input::Failed(why) => failure::tell(rt.stderr(), b"lineroutes: standard input", why),
     }
 }

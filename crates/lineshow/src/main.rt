@@ -3,7 +3,8 @@ use base_refusal::Refusal;
 use crew_answer::lines;
 use crew_fault::places;
 use crew_io::input::Input;
-use crew_io::{input, page};
+use crew_io::page::Page;
+use crew_io::{failure, input, page};
 use format_layout::FEW_CARDS;
 use tie_check::Ties;
 use tie_check::entries::ENTRY;
@@ -36,7 +37,7 @@ fn ended(lines: usize, b: u8) -> usize {
 
 // Tells an entry where its line ends: the first line has none.
 fn explain(
-    out: &mut [u8],
+    out: &mut Page<'_>,
     n: usize,
     header: &[u8],
     keys: &[u64],
@@ -67,7 +68,7 @@ fn explain(
 }
 
 // Puts linecheck's text as it is, and each entry's explanation behind its line.
-fn show_lines(out: &mut [u8], text: &[u8], header: &[u8], keys: &[u64], list: &[u32]) -> usize {
+fn show_lines(out: &mut Page<'_>, text: &[u8], header: &[u8], keys: &[u64], list: &[u32]) -> usize {
     let mut end = 0;
     let mut lines = 0;
     let mut i = 0;
@@ -82,7 +83,7 @@ fn show_lines(out: &mut [u8], text: &[u8], header: &[u8], keys: &[u64], list: &[
 }
 
 // Shows how much is broken.
-fn show_broken(out: &mut [u8], header: &[u8], found: usize, list: &[u32]) -> usize {
+fn show_broken(out: &mut Page<'_>, header: &[u8], found: usize, list: &[u32]) -> usize {
     let mut keys = [0u64; KEYS];
     places::note(header, &mut keys);
     let mut text = [0u8; lines::LONGEST];
@@ -91,7 +92,7 @@ fn show_broken(out: &mut [u8], header: &[u8], found: usize, list: &[u32]) -> usi
 }
 
 // Shows why a header is refused.
-fn show_refused(out: &mut [u8], header: &[u8], refusal: Refusal) -> usize {
+fn show_refused(out: &mut Page<'_>, header: &[u8], refusal: Refusal) -> usize {
     let mut text = [0u8; LINE];
     let size = lines::spell_refused(&mut text, refusal.number, refusal.card, refusal.column);
     let said = page::push_all(out, 0, &text[..size]);
@@ -99,7 +100,7 @@ fn show_refused(out: &mut [u8], header: &[u8], refusal: Refusal) -> usize {
 }
 
 // Checks a header, and shows what the check says.
-fn show(out: &mut [u8], header: &[u8]) -> usize {
+fn show(out: &mut Page<'_>, header: &[u8]) -> usize {
     let mut list = [0u32; LIST];
     let ties = crew_answer::check(header, &mut list);
     match ties {
@@ -109,19 +110,20 @@ fn show(out: &mut [u8], header: &[u8]) -> usize {
 }
 
 // Shows a header on standard output.
-fn reply(header: &[u8]) {
-    let mut out = [0u8; PAGE];
+fn reply(rt: &HostRuntime, header: &[u8]) {
+    let mut bytes = [0u8; PAGE];
+    let mut out = page::on(rt.stdout(), &mut bytes);
     let n = show(&mut out, header);
-    if !page::finish(&out, n) {
-        os::fail(b"lineshow: standard output");
+    if let Err(why) = page::finish(&out, n) {
+        failure::tell(rt.stderr(), b"lineshow: standard output", why);
     }
 }
 
-fn main() {
+fn main(rt: HostRuntime) {
     let mut buf = [0u8; ROOM];
-    let input = input::read_all(&mut buf);
+    let input = input::read_all(rt.stdin(), &mut buf);
     match input {
-        Input::Whole(n) => reply(&buf[..n]),
-        Input::Failed => os::fail(b"lineshow: standard input"),
+        Input::Whole(n) => reply(&rt, &buf[..n]),
+        Input::Failed(why) => failure::tell(rt.stderr(), b"lineshow: standard input", why),
     }
 }

@@ -1,6 +1,7 @@
 // The listing of a volume: a line for each of its lines.
 use base_digits::digits;
-use crew_io::page;
+use crew_io::page::Page;
+use crew_io::{failure, page};
 use format_layout::CARD;
 use value_text::text;
 
@@ -37,7 +38,7 @@ fn unpadded(s: &[u8]) -> &[u8] {
 }
 
 // Puts a number that stands behind blanks, and a blank behind it.
-fn push_first(out: &mut [u8], n: usize, s: &[u8]) -> usize {
+fn push_first(out: &mut Page<'_>, n: usize, s: &[u8]) -> usize {
     let read = digits::read_run(unpadded(s), 0);
     let number = read.number;
     let end = page::push_number(out, n, number);
@@ -53,7 +54,7 @@ fn behind_first(s: &[u8]) -> &[u8] {
 }
 
 // Puts a text without its blanks, or a dash where there is none.
-fn push_text(out: &mut [u8], n: usize, s: &[u8]) -> usize {
+fn push_text(out: &mut Page<'_>, n: usize, s: &[u8]) -> usize {
     let text = unpadded(text::stretch(s));
     if text.len() == 0 {
         return page::push(out, n, b'-');
@@ -62,7 +63,7 @@ fn push_text(out: &mut [u8], n: usize, s: &[u8]) -> usize {
 }
 
 // Puts a line's place, its first card and its number of cards.
-fn push_numbers(out: &mut [u8], n: usize, card: &[u8], place: usize) -> usize {
+fn push_numbers(out: &mut Page<'_>, n: usize, card: &[u8], place: usize) -> usize {
     let numbers = columns(card, NUMBERS, CARD);
     let placed = page::push_form(out, n, b"# ", place as u64, 0, 0);
     let first = push_first(out, placed, numbers);
@@ -70,7 +71,7 @@ fn push_numbers(out: &mut [u8], n: usize, card: &[u8], place: usize) -> usize {
 }
 
 // Puts a line's sequence number and its name.
-fn push_named(out: &mut [u8], n: usize, card: &[u8]) -> usize {
+fn push_named(out: &mut Page<'_>, n: usize, card: &[u8]) -> usize {
     let sequence = push_text(out, n, columns(card, SEQUENCE, SEQUENCE_END));
     let blank = page::push(out, sequence, b' ');
     let name = push_text(out, blank, columns(card, NAME, NAME_END));
@@ -78,7 +79,7 @@ fn push_named(out: &mut [u8], n: usize, card: &[u8]) -> usize {
 }
 
 // Puts a line.
-fn push_line(out: &mut [u8], n: usize, card: &[u8], place: usize) -> usize {
+fn push_line(out: &mut Page<'_>, n: usize, card: &[u8], place: usize) -> usize {
     let numbered = push_numbers(out, n, card, place);
     push_named(out, numbered, card)
 }
@@ -92,8 +93,9 @@ fn first_entry(volume: &[u8], cards: usize) -> usize {
 }
 
 // Writes the lines of a volume of so many cards, which is accepted.
-pub fn write_lines(volume: &[u8], cards: usize) {
-    let mut out = [0u8; PAGE];
+pub fn write_lines(rt: &HostRuntime, volume: &[u8], cards: usize) {
+    let mut bytes = [0u8; PAGE];
+    let mut out = page::on(rt.stdout(), &mut bytes);
     let first = first_entry(volume, cards);
     let mut end = 0;
     let mut i = first;
@@ -101,7 +103,7 @@ pub fn write_lines(volume: &[u8], cards: usize) {
         end = push_line(&mut out, end, page::card_in(volume, i), i - first + 1);
         i += 1;
     }
-    if !page::finish(&out, end) {
-        os::fail(b"linevolume: standard output");
+    if let Err(why) = page::finish(&out, end) {
+        failure::tell(rt.stderr(), b"linevolume: standard output", why);
     }
 }

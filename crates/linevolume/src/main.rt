@@ -7,10 +7,9 @@ ghost use Rattle.std.specs.Prelude.{◌≡◌, length};
 use crate::words::Whose;
 use base_digits::digits;
 use base_refusal::Refusal;
-use crew_io::input;
 use crew_io::input::Input;
+use crew_io::{argument, failure, input};
 use format_layout::CARD;
-use libc::STDOUT_FILENO;
 use volume_check::{Counted, Found};
 use volume_edit::{Volume, compact, convert};
 
@@ -74,9 +73,9 @@ fn wanted_by(word: &[u8]) -> Wanted {
 }
 
 // Writes cards.
-fn write(cards: &[u8]) {
-    if !io::write_all(STDOUT_FILENO, cards) {
-        os::fail(b"linevolume: standard output");
+fn write(rt: &HostRuntime, cards: &[u8]) {
+    if let Err(why) = rt.write_all(cards) {
+        failure::tell(rt.stderr(), b"linevolume: standard output", why);
     }
 }
 
@@ -97,98 +96,98 @@ fn front(volume: &[u8], cards: usize) -> &[u8] {
 }
 
 // The volume of so many bytes.
-fn counted(size: usize) -> Taken {
+fn counted(rt: &HostRuntime, size: usize) -> Taken {
     if size % CARD != 0 {
-        words::tell_odd();
+        words::tell_odd(rt.stderr());
         return Taken::Nothing;
     }
     Taken::Cards(size / CARD)
 }
 
 // Reads a volume to the end of the input.
-fn take(volume: &mut [u8]) -> Taken {
-    let input = input::read_all(volume);
+fn take(rt: &HostRuntime, volume: &mut [u8]) -> Taken {
+    let input = input::read_all(rt.stdin(), volume);
     match input {
-        Input::Whole(n) => counted(n),
-        Input::Failed => {
-            os::fail(b"linevolume: standard input");
+        Input::Whole(n) => counted(rt, n),
+        Input::Failed(why) => {
+            failure::tell(rt.stderr(), b"linevolume: standard input", why);
             Taken::Nothing
         }
     }
 }
 
 // Writes the empty volume.
-fn make_new() {
+fn make_new(rt: &HostRuntime) {
     let mut volume = [0u8; CARD];
     let laid = volume_edit::lay_empty(&mut volume);
     match laid {
-        Volume::Cards(n) => write(front(&volume, n)),
-        Volume::Refused(r) => words::tell(r, Whose::Volume),
+        Volume::Cards(n) => write(rt, front(&volume, n)),
+        Volume::Refused(r) => words::tell(rt.stderr(), r, Whose::Volume),
     }
 }
 
 // Lists the lines of a volume.
-fn list_lines(volume: &[u8], cards: usize) {
+fn list_lines(rt: &HostRuntime, volume: &[u8], cards: usize) {
     let lines = volume_check::lines(volume, cards);
     match lines {
-        Counted::Lines(_) => listing::write_lines(volume, cards),
-        Counted::Refused(r) => words::tell(r, Whose::Volume),
+        Counted::Lines(_) => listing::write_lines(rt, volume, cards),
+        Counted::Refused(r) => words::tell(rt.stderr(), r, Whose::Volume),
     }
 }
 
 // Writes the header at a place.
-fn get_line(volume: &[u8], cards: usize, place: usize) {
+fn get_line(rt: &HostRuntime, volume: &[u8], cards: usize, place: usize) {
     let found = volume_check::find_line(volume, cards, place);
     match found {
-        Found::Line(_, _, _) => write(volume_check::line(volume, cards, place)),
-        Found::Refused(r) => words::tell(r, Whose::Volume),
+        Found::Line(_, _, _) => write(rt, volume_check::line(volume, cards, place)),
+        Found::Refused(r) => words::tell(rt.stderr(), r, Whose::Volume),
     }
 }
 
 // Tells why a header is not appended: whether its own offence or one in the volume.
-fn tell_append(volume: &[u8], cards: usize, r: Refusal) {
+fn tell_append(rt: &HostRuntime, volume: &[u8], cards: usize, r: Refusal) {
     let lines = volume_check::lines(volume, cards);
     match lines {
-        Counted::Lines(_) => words::tell(r, Whose::Header),
-        Counted::Refused(_) => words::tell(r, Whose::Volume),
+        Counted::Lines(_) => words::tell(rt.stderr(), r, Whose::Header),
+        Counted::Refused(_) => words::tell(rt.stderr(), r, Whose::Volume),
     }
 }
 
 // Writes the volume with a header at its end.
-fn append_line(volume: &mut [u8], cards: usize, header: &[u8]) {
+fn append_line(rt: &HostRuntime, volume: &mut [u8], cards: usize, header: &[u8]) {
     let appended = volume_edit::append(volume, cards, header);
     match appended {
-        Volume::Cards(n) => write(front(volume, n)),
-        Volume::Refused(r) => tell_append(volume, cards, r),
+        Volume::Cards(n) => write(rt, front(volume, n)),
+        Volume::Refused(r) => tell_append(rt, volume, cards, r),
     }
 }
 
 // Reads the volume behind the header.
-fn append_to(header: &[u8]) {
+fn append_to(rt: &HostRuntime, header: &[u8]) {
     let mut volume = volume_room();
-    let taken = take(&mut volume);
+    let taken = take(rt, &mut volume);
     if let Taken::Cards(n) = taken {
-        append_line(&mut volume, n, header);
+        append_line(rt, &mut volume, n, header);
     }
 }
 
 // Reads the header, which fills what is lent for it.
-fn append_from(header: &mut [u8]) {
-    let input = input::read_all(header);
+fn append_from(rt: &HostRuntime, header: &mut [u8]) {
+    let input = input::read_all(rt.stdin(), header);
     match input {
-        Input::Whole(n) => append_to(first(header, n)),
-        Input::Failed => os::fail(b"linevolume: standard input"),
+        Input::Whole(n) => append_to(rt, first(header, n)),
+        Input::Failed(why) => failure::tell(rt.stderr(), b"linevolume: standard input", why),
     }
 }
 
 // Appends a header of so many bytes, which stand at the front of the input.
-fn append(size: usize) {
+fn append(rt: &HostRuntime, size: usize) {
     let mut header = input::room();
     if input::ROOM < size {
-        words::say(b"linevolume: the header is too long\n");
+        words::say(rt.stderr(), b"linevolume: the header is too long\n");
         return;
     }
-    append_from(&mut header[..size]);
+    append_from(rt, &mut header[..size]);
 }
 
 // Brings a volume into another form, or drops superseded lines.
@@ -201,50 +200,51 @@ fn changed_by(wanted: Wanted, volume: &mut [u8], cards: usize) -> Volume {
 }
 
 // Writes a volume that is changed.
-fn change(wanted: Wanted, volume: &mut [u8], cards: usize) {
+fn change(rt: &HostRuntime, wanted: Wanted, volume: &mut [u8], cards: usize) {
     let changed = changed_by(wanted, volume, cards);
     match changed {
-        Volume::Cards(n) => write(front(volume, n)),
-        Volume::Refused(r) => words::tell(r, Whose::Volume),
+        Volume::Cards(n) => write(rt, front(volume, n)),
+        Volume::Refused(r) => words::tell(rt.stderr(), r, Whose::Volume),
     }
 }
 
 // Does what is asked for with a volume.
-fn answer(wanted: Wanted, volume: &mut [u8], cards: usize, place: usize) {
+fn answer(rt: &HostRuntime, wanted: Wanted, volume: &mut [u8], cards: usize, place: usize) {
     match wanted {
-        Wanted::List => list_lines(volume, cards),
-        Wanted::Get => get_line(volume, cards, place),
-        _ => change(wanted, volume, cards),
+        Wanted::List => list_lines(rt, volume, cards),
+        Wanted::Get => get_line(rt, volume, cards, place),
+        _ => change(rt, wanted, volume, cards),
     }
 }
 
 // Reads the volume, and does what is asked for.
-fn read_and_answer(wanted: Wanted, place: usize) {
+fn read_and_answer(rt: &HostRuntime, wanted: Wanted, place: usize) {
     let mut volume = volume_room();
-    let taken = take(&mut volume);
+    let taken = take(rt, &mut volume);
     if let Taken::Cards(n) = taken {
-        answer(wanted, &mut volume, n, place);
+        answer(rt, wanted, &mut volume, n, place);
     }
 }
 
 // Does what is asked for, with the number that goes with it.
-fn run(wanted: Wanted, number: usize) {
+fn run(rt: &HostRuntime, wanted: Wanted, number: usize) {
     match wanted {
-        Wanted::New => make_new(),
-        Wanted::Append => append(number),
+        Wanted::New => make_new(rt),
+        Wanted::Append => append(rt, number),
         Wanted::Other => words::say(
+            rt.stderr(),
             b"linevolume: usage: linevolume new|list|get PLACE|append SIZE|widen|narrow|compact\n",
         ),
-        _ => read_and_answer(wanted, number),
+        _ => read_and_answer(rt, wanted, number),
     }
 }
 
-fn main() {
+fn main(rt: HostRuntime) {
     let mut word = [0u8; WORD];
-    let size = os::arg(1, &mut word);
+    let size = argument::word(&rt, 1, &mut word);
     let mut digit = [0u8; WORD];
-    let count = os::arg(2, &mut digit);
+    let count = argument::word(&rt, 2, &mut digit);
     let read = digits::read_run(&digit[..count], 0);
     let number = read.number;
-    run(wanted_by(&word[..size]), number as usize);
+    run(&rt, wanted_by(&word[..size]), number as usize);
 }

@@ -1,6 +1,6 @@
 // What linevolume says on standard error when it does nothing else.
 use base_refusal::{NO_CARDS_LEFT, NO_DIRECTORY, NO_SUCH, NO_TRAILER, NOT_OLD, Refusal, TOO_MANY};
-use libc::STDERR_FILENO;
+use std::io::Stderr;
 
 // Whose refusal it is where it is a header's own.
 #[derive(Drop)]
@@ -10,66 +10,75 @@ pub enum Whose {
 }
 
 // Says words on standard error; where that fails too there is nobody to tell.
-pub fn say(words: &[u8]) {
-    io::write_all(STDERR_FILENO, words);
+pub fn say(to: Stderr, words: &[u8]) {
+    let _ = to.write_all(words);
 }
 
 // Says a number.
-fn say_number(n: usize) {
-    io::print_decimal(STDERR_FILENO, n as u64);
+fn say_number(to: Stderr, n: usize) {
+    let _ = to.print(n);
 }
 
 // Says that the header to be appended is refused.
-fn say_refused(number: usize) {
+fn say_refused(to: Stderr, number: usize) {
     if number == TOO_MANY {
         say(
+            to,
             b"the header has more cards than the volume's form allows, 800 or, if it is wide, 4096.\n",
         );
         return;
     }
-    say(b"so the header is refused. ./lineshow tells more.\n");
+    say(to, b"so the header is refused. ./lineshow tells more.\n");
 }
 
 // Says whose header is refused.
-fn say_header(number: usize, whose: Whose) {
+fn say_header(to: Stderr, number: usize, whose: Whose) {
     match whose {
         Whose::Volume => say(
+            to,
             b"so a header in the volume is refused, its cards counted by themselves.\n",
         ),
-        Whose::Header => say_refused(number),
+        Whose::Header => say_refused(to, number),
     }
 }
 
 // Says what a refusal's number means.
-fn say_why(number: usize, whose: Whose) {
+fn say_why(to: Stderr, number: usize, whose: Whose) {
     match number {
-        NO_SUCH => say(b"the volume has no line at this place.\n"),
+        NO_SUCH => say(to, b"the volume has no line at this place.\n"),
         NO_TRAILER => say(
+            to,
             b"this is no volume: its last card is no trailer that points at its directory.\n",
         ),
-        NO_DIRECTORY => say(b"the volume's directory does not agree with its headers.\n"),
-        NO_CARDS_LEFT => say(b"the volume would have more cards than it may.\n"),
-        NOT_OLD => say(b"the old form cannot hold this volume.\n"),
-        _ => say_header(number, whose),
+        NO_DIRECTORY => say(
+            to,
+            b"the volume's directory does not agree with its headers.\n",
+        ),
+        NO_CARDS_LEFT => say(to, b"the volume would have more cards than it may.\n"),
+        NOT_OLD => say(to, b"the old form cannot hold this volume.\n"),
+        _ => say_header(to, number, whose),
     }
 }
 
 // Says why nothing is done.
-pub fn tell(r: Refusal, whose: Whose) {
+pub fn tell(to: Stderr, r: Refusal, whose: Whose) {
     let number = r.number;
     let card = r.card;
     let column = r.column;
-    say(b"linevolume: refused ");
-    say_number(number);
-    say(b" ");
-    say_number(card);
-    say(b" ");
-    say_number(column);
-    say(b": ");
-    say_why(number, whose);
+    say(to, b"linevolume: refused ");
+    say_number(to, number);
+    say(to, b" ");
+    say_number(to, card);
+    say(to, b" ");
+    say_number(to, column);
+    say(to, b": ");
+    say_why(to, number, whose);
 }
 
 // Says that a file is no whole number of cards.
-pub fn tell_odd() {
-    say(b"linevolume: refused 18 0 0: the volume is not a whole number of cards of 80 bytes.\n");
+pub fn tell_odd(to: Stderr) {
+    say(
+        to,
+        b"linevolume: refused 18 0 0: the volume is not a whole number of cards of 80 bytes.\n",
+    );
 }

@@ -5,6 +5,7 @@ use card_field::FieldRead;
 use card_put::opening::Opened;
 use card_put::{Entered, opening};
 use format_layout::{CARD, Form};
+use std::io::Stdout;
 use test_script::values::Offer;
 use test_script::{Count, say, values};
 
@@ -34,51 +35,51 @@ fn card_in(s: &[u8], columns: &mut [u8]) -> Count {
 }
 
 // Writes a refusal: its number, card and column.
-fn say_refusal(r: Refusal) {
-    say::words(b"refused");
-    say::next(r.number as u64);
-    say::next(r.card as u64);
-    say::next(r.column as u64)
+fn say_refusal(to: Stdout, r: Refusal) {
+    say::words(to, b"refused");
+    say::next(to, r.number as u64);
+    say::next(to, r.card as u64);
+    say::next(to, r.column as u64)
 }
 
 // Writes what was read.
-fn say_read(r: FieldRead) {
+fn say_read(to: Stdout, r: FieldRead) {
     match r {
-        FieldRead::Is(v, misplaced) => values::say_placed(v, misplaced),
-        FieldRead::Refused(why) => say_refusal(why),
+        FieldRead::Is(v, misplaced) => values::say_placed(to, v, misplaced),
+        FieldRead::Refused(why) => say_refusal(to, why),
     }
 }
 
 // Writes a blank and a card behind an answer.
-fn say_card(card: &[u8]) {
-    say::words(b" ");
-    say::columns(card)
+fn say_card(to: Stdout, card: &[u8]) {
+    say::words(to, b" ");
+    say::columns(to, card)
 }
 
 // Writes what came of an entry.
-fn say_entered(e: Entered) {
+fn say_entered(to: Stdout, e: Entered) {
     match e {
-        Entered::Done => say::words(b"done"),
-        Entered::Refused(why) => say_refusal(why),
+        Entered::Done => say::words(to, b"done"),
+        Entered::Refused(why) => say_refusal(to, why),
     }
 }
 
 // Writes what came of opening.
-fn say_opened(o: Opened) {
+fn say_opened(to: Stdout, o: Opened) {
     match o {
-        Opened::Done => say::words(b"done"),
-        Opened::Refused(why) => say_refusal(why),
+        Opened::Done => say::words(to, b"done"),
+        Opened::Refused(why) => say_refusal(to, why),
     }
 }
 
 // Writes a card's verdict.
-fn say_verdict(v: Verdict) {
+fn say_verdict(to: Stdout, v: Verdict) {
     match v {
-        Verdict::Fine => say::words(b"fine"),
+        Verdict::Fine => say::words(to, b"fine"),
         Verdict::Offence(number, column) => {
-            say::words(b"offence");
-            say::next(number as u64);
-            say::next(column as u64)
+            say::words(to, b"offence");
+            say::next(to, number as u64);
+            say::next(to, column as u64)
         }
     }
 }
@@ -108,70 +109,73 @@ fn form_in(s: &[u8]) -> Known {
 }
 
 // judge FORM card
-fn judge(args: &[u8], card: &[u8]) {
+fn judge(to: Stdout, args: &[u8], card: &[u8]) {
     let Known::Is(form) = form_in(test_script::word(args)) else {
-        return say::unknown();
+        return say::unknown(to);
     };
-    say_verdict(card_check::judge_card(card, form))
+    say_verdict(to, card_check::judge_card(card, form))
 }
 
 // open |code| card
-fn open(args: &[u8], card: &mut [u8]) {
+fn open(to: Stdout, args: &[u8], card: &mut [u8]) {
     let mut code = [0u8; 128];
     let Count::Is(length) = test_script::columns_in(test_script::first_part(args), &mut code) else {
-        return say::unknown();
+        return say::unknown(to);
     };
-    say_opened(opening::open(card, test_script::front(&code, length as usize)));
-    say_card(card)
+    say_opened(
+        to,
+        opening::open(card, test_script::front(&code, length as usize)),
+    );
+    say_card(to, card)
 }
 
 // put N FORM value card
-fn put(offer: &[u8], card: &mut [u8], number: usize, form: usize) {
+fn put(to: Stdout, offer: &[u8], card: &mut [u8], number: usize, form: usize) {
     let Offer::Is(v) = values::value_in(test_script::before_bar(offer)) else {
-        return say::unknown();
+        return say::unknown(to);
     };
-    say_entered(card_put::put(card, number, form, v));
-    say_card(card)
+    say_entered(to, card_put::put(card, number, form, v));
+    say_card(to, card)
 }
 
 // write N FORM |text| card
-fn write(offer: &[u8], card: &mut [u8], number: usize, form: usize) {
+fn write(to: Stdout, offer: &[u8], card: &mut [u8], number: usize, form: usize) {
     let mut text = [0u8; 128];
     let Count::Is(length) = test_script::columns_in(test_script::first_part(offer), &mut text)
     else {
-        return say::unknown();
+        return say::unknown(to);
     };
     let offered = test_script::front(&text, length as usize);
-    say_entered(card_put::put_text(card, number, form, offered));
-    say_card(card)
+    say_entered(to, card_put::put_text(card, number, form, offered));
+    say_card(to, card)
 }
 
 // field N FORM card, text N FORM card and the two entries
-fn on_field(letter: u8, args: &[u8], card: &mut [u8]) {
+fn on_field(to: Stdout, letter: u8, args: &[u8], card: &mut [u8]) {
     let Asked::Is(number, form) = asked_in(args) else {
-        return say::unknown();
+        return say::unknown(to);
     };
     let offer = test_script::next(test_script::next(args));
     match letter {
-        b'f' => say_read(card_field::read_field(card, number, form)),
-        b't' => say::columns(card_field::read_text(card, number, form)),
-        b'p' => put(offer, card, number, form),
-        b'w' => write(offer, card, number, form),
-        _ => say::unknown(),
+        b'f' => say_read(to, card_field::read_field(card, number, form)),
+        b't' => say::columns(to, card_field::read_text(card, number, form)),
+        b'p' => put(to, offer, card, number, form),
+        b'w' => write(to, offer, card, number, form),
+        _ => say::unknown(to),
     }
 }
 
 // Answers a command on the card that the first columns are.
-fn on_card(line: &[u8], columns: &mut [u8], size: usize) {
+fn on_card(to: Stdout, line: &[u8], columns: &mut [u8], size: usize) {
     if columns.len() < size {
-        return say::unknown();
+        return say::unknown(to);
     }
     let card = &mut columns[..size];
     let args = test_script::next(line);
     match test_script::letter(line) {
-        b'j' => judge(args, card),
-        b'o' => open(args, card),
-        letter => on_field(letter, args, card),
+        b'j' => judge(to, args, card),
+        b'o' => open(to, args, card),
+        letter => on_field(to, letter, args, card),
     }
 }
 
@@ -186,10 +190,10 @@ fn card_part(line: &[u8]) -> &[u8] {
 }
 
 // Answers a command.
-pub fn answer(line: &[u8]) {
+pub fn answer(to: Stdout, line: &[u8]) {
     let mut columns = [b' '; 128];
     let Count::Is(size) = card_in(card_part(line), &mut columns) else {
-        return say::unknown();
+        return say::unknown(to);
     };
-    on_card(line, &mut columns, size as usize)
+    on_card(to, line, &mut columns, size as usize)
 }

@@ -1,5 +1,6 @@
 // The commands on one field's columns: read, text, write and put.
 use base_refusal::Written;
+use std::io::Stdout;
 use test_script::values::Offer;
 use test_script::{Count, say, values};
 use value_field::spelling::Spelling;
@@ -50,59 +51,64 @@ fn number_of(w: Written) -> u64 {
 }
 
 // Writes what came of writing, and the columns.
-fn say_written(w: Written, columns: &[u8]) {
-    say::number(number_of(w));
-    say::words(b" ");
-    say::columns(columns)
+fn say_written(to: Stdout, w: Written, columns: &[u8]) {
+    say::number(to, number_of(w));
+    say::words(to, b" ");
+    say::columns(to, columns)
 }
 
 // read K |columns|, text K |columns|
-fn read(field: &[u8], k: Spelling, text: bool) {
+fn read(to: Stdout, field: &[u8], k: Spelling, text: bool) {
     if text {
-        return say::columns(spelling::text_of(field, k));
+        return say::columns(to, spelling::text_of(field, k));
     }
-    values::say_reading(spelling::read(field, k), spelling::is_misplaced(field, k))
+    values::say_reading(
+        to,
+        spelling::read(field, k),
+        spelling::is_misplaced(field, k),
+    )
 }
 
 // write K W value
-fn write(offer: &[u8], columns: &mut [u8], k: Spelling) {
+fn write(to: Stdout, offer: &[u8], columns: &mut [u8], k: Spelling) {
     let Offer::Is(v) = values::value_in(offer) else {
-        return say::unknown();
+        return say::unknown(to);
     };
-    say_written(writing::write(columns, k, v), columns)
+    say_written(to, writing::write(columns, k, v), columns)
 }
 
 // put K W |text|
-fn put(offer: &[u8], columns: &mut [u8], k: Spelling) {
+fn put(to: Stdout, offer: &[u8], columns: &mut [u8], k: Spelling) {
     let mut text = [0u8; 128];
     let Count::Is(size) = test_script::columns_in(offer, &mut text) else {
-        return say::unknown();
+        return say::unknown(to);
     };
     let offered = test_script::front(&text, size as usize);
-    say_written(writing::write_text(columns, k, offered), columns)
+    say_written(to, writing::write_text(columns, k, offered), columns)
 }
 
 // Writes a value or a text into the first w columns.
-fn enter(offer: &[u8], columns: &mut [u8], w: usize, k: Spelling, text: bool) {
+fn enter(to: Stdout, offer: &[u8], columns: &mut [u8], w: usize, k: Spelling, text: bool) {
     if columns.len() < w {
-        return say::unknown();
+        return say::unknown(to);
     }
     let field = &mut columns[..w];
     if text {
-        return put(offer, field, k);
+        return put(to, offer, field, k);
     }
-    write(offer, field, k)
+    write(to, offer, field, k)
 }
 
 // K and |columns|, or K, W and what is offered
-fn on_field(args: &[u8], k: Spelling, letter: u8) {
+fn on_field(to: Stdout, args: &[u8], k: Spelling, letter: u8) {
     let mut columns = [b'#'; 128];
     let rest = test_script::next(args);
     if (letter == b'w') | (letter == b'p') {
         let Count::Is(w) = test_script::count_in(test_script::word(rest)) else {
-            return say::unknown();
+            return say::unknown(to);
         };
         return enter(
+            to,
             test_script::next(rest),
             &mut columns,
             w as usize,
@@ -111,16 +117,21 @@ fn on_field(args: &[u8], k: Spelling, letter: u8) {
         );
     }
     let Count::Is(w) = test_script::columns_in(rest, &mut columns) else {
-        return say::unknown();
+        return say::unknown(to);
     };
-    read(test_script::front(&columns, w as usize), k, letter == b't')
+    read(
+        to,
+        test_script::front(&columns, w as usize),
+        k,
+        letter == b't',
+    )
 }
 
 // Answers a command.
-pub fn answer(line: &[u8]) {
+pub fn answer(to: Stdout, line: &[u8]) {
     let args = test_script::next(line);
     let Kind::Is(k) = kind_in(args) else {
-        return say::unknown();
+        return say::unknown(to);
     };
-    on_field(args, k, test_script::letter(line))
+    on_field(to, args, k, test_script::letter(line))
 }

@@ -1,28 +1,30 @@
 // Answers a script of commands line by line; the answers asked for are written down in advance.
 mod fields;
 
+use std::io::Stdout;
 use test_script::say;
 
 // Answers every line of a script that asks.
-fn run(text: &[u8]) {
+fn run(to: Stdout, text: &[u8]) {
     let mut i = 0;
     while i < text.len() {
         let rest = &text[i..];
         let line = test_script::line_in(rest);
-        if test_script::asks(line) {
-            fields::answer(line);
+        if test_script::asks(to, line) {
+            fields::answer(to, line);
         }
-        say::end();
+        say::end(to);
         i += test_script::line_size(rest);
     }
 }
 
-fn main() {
+fn main(rt: HostRuntime) {
+    let to = rt.stdout();
     let mut text = test_script::room();
-    let size = io::read_full(0, &mut text);
+    let size = test_script::read_full(rt.stdin(), &mut text);
     if size == text.len() {
-        say::words(b"the script is too long\n");
+        say::words(to, b"the script is too long\n");
         return;
     }
-    run(&text[..size])
+    run(to, &text[..size])
 }

@@ -1,12 +1,16 @@
 // The script: its lines, their words, and what numbers and columns stand in them. A test tool: nothing that the crew is told
 // rests on it, so its contracts are bounds, and it has no laws and no edits.
+
+#![tactic(auto)]
+
 pub mod headers;
 pub mod say;
 pub mod values;
 
-ghost use Rattle.std.specs.Prelude.{◌≡◌, ◌≤◌, ◌<◌, min, length};
+ghost use Rattle.std.specs.Prelude.{◌≡◌, ◌+◌, ◌≤◌, ◌<◌, min, length};
 
 use format_layout::BLANK;
+use std::io::{Read, Stdin, Stdout};
 
 const BAR: u8 = b'|';
 
@@ -32,6 +36,32 @@ pub fn room() -> [u8; 262144]
     ensures { 262144 ≡ length result }
 {
     [0; 262144]
+}
+
+// Reads once, behind the bytes that came before: how many there are, none at the end or where the read fails.
+fn read_more(mut from: Stdin, text: &mut [u8], done: usize) -> usize
+    requires { done ≤ length text.old }
+    ensures { done + result ≤ length text.old }
+{
+    match from.read(&mut text[done..]) {
+        Ok(n) => n,
+        Err(_) => 0,
+    }
+}
+
+// Reads until the input ends, a read fails or the text is full, and answers how many bytes there are.
+pub fn read_full(from: Stdin, text: &mut [u8]) -> usize
+    ensures { result ≤ length text.new }
+{
+    let mut done = 0;
+    while done < text.len() {
+        let more = read_more(from, text, done);
+        if more == 0 {
+            return done;
+        }
+        done += more;
+    }
+    done
 }
 
 // The place of the first b, or the length where there is none.
@@ -100,12 +130,12 @@ fn is_title(line: &[u8]) -> bool {
 }
 
 // Repeats a line, and answers whether it asks for an answer: an empty line and a title do not.
-pub fn asks(line: &[u8]) -> bool {
-    say::words(line);
+pub fn asks(to: Stdout, line: &[u8]) -> bool {
+    say::words(to, line);
     if is_title(line) {
         return false;
     }
-    say::words(b" = ");
+    say::words(to, b" = ");
     true
 }
 

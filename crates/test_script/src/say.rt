@@ -1,30 +1,32 @@
 // The answers, written as they come. Not collected in a page: a function that is lent one and hands on its end takes the prover
 // four times as long.
 
-// Writes bytes as they are.
-pub fn words(s: &[u8]) {
-    io::write_all(1, s);
+use std::io::Stdout;
+
+// Writes bytes as they are; where that fails, what was written is not the answer that is stored.
+pub fn words(to: Stdout, s: &[u8]) {
+    let _ = to.write_all(s);
 }
 
 // Writes a number.
-pub fn number(n: u64) {
-    io::print_decimal(1, n);
+pub fn number(to: Stdout, n: u64) {
+    let _ = to.print(n);
 }
 
 // Writes a number behind a blank.
-pub fn next(n: u64) {
-    words(b" ");
-    number(n)
+pub fn next(to: Stdout, n: u64) {
+    words(to, b" ");
+    number(to, n)
 }
 
 // Ends a line.
-pub fn end() {
-    words(b"\n")
+pub fn end(to: Stdout) {
+    words(to, b"\n")
 }
 
 // Writes the answer to what is no command.
-pub fn unknown() {
-    words(b"?")
+pub fn unknown(to: Stdout) {
+    words(to, b"?")
 }
 
 // The character that stands for a byte between bars.
@@ -52,10 +54,10 @@ fn show(s: &[u8], text: &mut [u8]) -> usize {
 }
 
 // Writes columns between bars: a script sets no more than there is room for.
-pub fn columns(s: &[u8]) {
+pub fn columns(to: Stdout, s: &[u8]) {
     let mut text = [0u8; 128];
     let n = show(s, &mut text);
-    words(b"|");
-    words(crate::front(&text, n));
-    words(b"|")
+    words(to, b"|");
+    words(to, crate::front(&text, n));
+    words(to, b"|")
 }

@@ -2,6 +2,7 @@
 use crate::{Count, Signed, say};
 use base_digits::signs;
 use base_value::{Columns, Date, Decimal, Reading, Value};
+use std::io::Stdout;
 
 // A value that is offered, or what is none.
 #[derive(Drop)]
@@ -112,66 +113,66 @@ pub fn value_in(s: &[u8]) -> Offer {
 }
 
 // Writes a number that may be below zero behind a blank.
-fn say_signed(z: i64) {
+fn say_signed(to: Stdout, z: i64) {
     if signs::below_zero(z) {
-        say::words(b" -");
-        return say::number(signs::magnitude(z));
+        say::words(to, b" -");
+        return say::number(to, signs::magnitude(z));
     }
-    say::next(signs::magnitude(z))
+    say::next(to, signs::magnitude(z))
 }
 
 // Writes a word and a number.
-fn say_named(name: &[u8], z: i64) {
-    say::words(name);
-    say_signed(z)
+fn say_named(to: Stdout, name: &[u8], z: i64) {
+    say::words(to, name);
+    say_signed(to, z)
 }
 
 // Writes units and places.
-fn say_decimal(d: Decimal) {
-    say_named(b"decimal", d.units);
-    say::next(d.places as u64)
+fn say_decimal(to: Stdout, d: Decimal) {
+    say_named(to, b"decimal", d.units);
+    say::next(to, d.places as u64)
 }
 
 // Writes year, month and day.
-fn say_date(d: Date) {
-    say::words(b"date");
-    say::next(d.year as u64);
-    say::next(d.month as u64);
-    say::next(d.day as u64)
+fn say_date(to: Stdout, d: Date) {
+    say::words(to, b"date");
+    say::next(to, d.year as u64);
+    say::next(to, d.month as u64);
+    say::next(to, d.day as u64)
 }
 
 // Writes the first and the last column of a text.
-fn say_text(c: Columns) {
-    say::words(b"text");
-    say::next(c.first as u64);
-    say::next(c.last as u64)
+fn say_text(to: Stdout, c: Columns) {
+    say::words(to, b"text");
+    say::next(to, c.first as u64);
+    say::next(to, c.last as u64)
 }
 
 // Writes a value.
-fn say_value(v: Value) {
+fn say_value(to: Stdout, v: Value) {
     match v {
-        Value::Absent => say::words(b"absent"),
-        Value::Whole(z) => say_named(b"whole", z),
-        Value::Decimal(d) => say_decimal(d),
-        Value::Angle(z) => say_named(b"angle", z),
-        Value::Date(d) => say_date(d),
-        Value::Text(c) => say_text(c),
+        Value::Absent => say::words(to, b"absent"),
+        Value::Whole(z) => say_named(to, b"whole", z),
+        Value::Decimal(d) => say_decimal(to, d),
+        Value::Angle(z) => say_named(to, b"angle", z),
+        Value::Date(d) => say_date(to, d),
+        Value::Text(c) => say_text(to, c),
     }
 }
 
 // Writes a value, and whether it is misplaced.
-pub fn say_placed(v: Value, misplaced: bool) {
-    say_value(v);
+pub fn say_placed(to: Stdout, v: Value, misplaced: bool) {
+    say_value(to, v);
     if misplaced {
-        say::words(b" misplaced")
+        say::words(to, b" misplaced")
     }
 }
 
 // Writes what stands in a field, or the number of its refusal.
-pub fn say_reading(r: Reading, misplaced: bool) {
+pub fn say_reading(to: Stdout, r: Reading, misplaced: bool) {
     match r {
-        Reading::Held(v) => say_placed(v, misplaced),
-        Reading::Malformed => say::number(9),
-        Reading::OutOfRange => say::number(10),
+        Reading::Held(v) => say_placed(to, v, misplaced),
+        Reading::Malformed => say::number(to, 9),
+        Reading::OutOfRange => say::number(to, 10),
     }
 }

@@ -1,31 +1,32 @@
 // Questions about a key.
 use base_refusal::Refusal;
+use std::io::Stdout;
 use test_script::{Count, Signed, headers, say};
 use tie_lookup::questions::{Defined, Key};
 use tie_lookup::{Node, Observation, Sensor, Streamer};
 
 // Writes a refusal.
-pub fn say_refused(r: Refusal) {
-    say::words(b"refused");
-    say::next(r.number as u64);
-    say::next(r.card as u64);
-    say::next(r.column as u64)
+pub fn say_refused(to: Stdout, r: Refusal) {
+    say::words(to, b"refused");
+    say::next(to, r.number as u64);
+    say::next(to, r.card as u64);
+    say::next(to, r.column as u64)
 }
 
 // Writes what a header says of a key.
-pub fn say_key(d: Defined) {
+pub fn say_key(to: Stdout, d: Defined) {
     match d {
-        Defined::None => say::words(b"none"),
+        Defined::None => say::words(to, b"none"),
         Defined::Only(card, column) => {
-            say::words(b"only");
-            say::next(card as u64);
-            say::next(column as u64)
+            say::words(to, b"only");
+            say::next(to, card as u64);
+            say::next(to, column as u64)
         }
         Defined::Several(k) => {
-            say::words(b"several");
-            say::next(k as u64)
+            say::words(to, b"several");
+            say::next(to, k as u64)
         }
-        Defined::Refused(r) => say_refused(r),
+        Defined::Refused(r) => say_refused(to, r),
     }
 }
 

@@ -1,6 +1,7 @@
 // Lists of numbers that the check is lent: marked before it, shown or summed behind it.
 ghost use Rattle.std.specs.Prelude.{◌<◌};
 
+use std::io::Stdout;
 use test_script::say;
 use tie_check::entries::ENTRY;
 
@@ -19,18 +20,18 @@ pub fn mark(list: &mut [u32]) {
 }
 
 // Writes the number at a place, a bar before each entry.
-fn say_entry(i: usize, x: u32) {
+fn say_entry(to: Stdout, i: usize, x: u32) {
     if i % ENTRY == 0 {
-        say::words(b" |");
+        say::words(to, b" |");
     }
-    say::next(x as u64)
+    say::next(to, x as u64)
 }
 
 // Writes all numbers.
-pub fn say_list(list: &[u32]) {
+pub fn say_list(to: Stdout, list: &[u32]) {
     let mut i = 0;
     while i < list.len() {
-        say_entry(i, list[i]);
+        say_entry(to, i, list[i]);
         i += 1;
     }
 }

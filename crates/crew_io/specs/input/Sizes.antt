@@ -9,8 +9,8 @@ use Rattle.crew_io.specs.declared.input.Input.TheVariants.{Whole, Failed}
 abbrev pub Brings : More → ℕ → ℕ → Type 0
 Brings (Bytes n) done room = (1 ≤ n) × (done + n ≤ room)
 Brings End done room = Unit {0}
-Brings Failure done room = Unit {0}
+Brings (Failure why) done room = Unit {0}
 
 abbrev pub size_of : Input → ℕ
 size_of (Whole n) = n
-size_of Failed = 0
+size_of (Failed why) = 0

@@ -1,4 +1,5 @@
 -- `negative` is safe: minus a number below 2 ^ 63 fits.
+-- minus a number that fits
 use Prim.Native.Nat.{ℕ, zero, suc, ◌<◌, ◌^◌}
 use mathlib.Core.Path.{ap, sym, subst, ◌∙◌}
 use native.Mathlib.Omega.{arith}
@@ -6,11 +7,8 @@ use lib.IntN.{pos, neg_ℤ, ◌-ℤ◌, +ℤ_idl}
 use mir.Syntax.{w64}
 use mir.Val.{SFits, to_z}
 use mir.ValLaws.{to_z_pos}
-use borrow.Author.Rules.{rules}
-use Rattle.test_script.proofs.negative.Statement.{statement}
-use Rattle.test_script.proofs.negative.Tie as tie
+use Rattle.test_script.proofs.negative.Goals as goal
 
--- minus a number that fits
 minus_small : (n : ℕ) → n < 2 ^ 63 → SFits w64 (neg_ℤ (pos n))
 minus_small zero h = record { sfits = h }
 minus_small (suc n) h = record { sfits = omega arith }
@@ -22,14 +20,5 @@ minus_held n h =
     (sym (ap (λ z. pos 0 -ℤ z) (to_z_pos w64 n h) ∙ +ℤ_idl (neg_ℤ (pos n))))
     (minus_small n h)
 
-cast-result : tie.Need-overflow-cast-result
-cast-result c = search rules
-
-sub-result : tie.Need-overflow-sub-result
-sub-result c = minus_held c.args.n (omega arith)
-
-returns : tie.Need-returns
-returns c = search rules
-
-pub negative-spec : {M : Type 1} → statement M
-negative-spec = tie.close (tie.spec cast-result sub-result returns)
+pub overflow_sub-result : goal.overflow_sub-result
+overflow_sub-result c = minus_held c.args.n (omega arith)
