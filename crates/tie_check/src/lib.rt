@@ -1,4 +1,6 @@
 // The ties between the cards of a header: the list of those that are broken.
+#![tactic(auto)]
+
 pub mod begins;
 pub mod entries;
 pub mod flagging;

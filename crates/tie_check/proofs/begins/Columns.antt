@@ -275,6 +275,7 @@ module _ (k i r : ℕ) (some : i ≡ 0 → ⊥) (is : r ≡ row_of k i) where
 
 -- a column that is in no slot carries no tie, and its row is the column alone
 not_in : (x : ℕ) (l : List ℕ) (n : ℕ) → length l ≤ n → ((j : ℕ) → j < n → get_or l j 0 ≡ x → ⊥) → Memᴰ x l → ⊥
+not_in x [] n h f m = elim m [ ]
 not_in x (y ∷ l) zero h f m = omega arith
 not_in x (y ∷ l) (suc n) h f (Memᴰ.head e) = f 0 (omega arith) (sym e)
 not_in x (y ∷ l) (suc n) h f (Memᴰ.tail m) = not_in x l n (omega arith) (λ j i. f (suc j) (omega arith)) m
