@@ -1,4 +1,6 @@
 // A volume read: how many lines it has, and the line at a place as a part of it. Every answer is about the whole volume first.
+#![tactic(auto)]
+
 pub mod covering;
 pub mod judging;
 

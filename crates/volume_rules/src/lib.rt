@@ -1,1 +1,2 @@
 // Laws of volumes; no functions.
+#![tactic(auto)]
