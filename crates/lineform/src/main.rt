@@ -1,4 +1,6 @@
 // The crew's program that converts a header: from standard input to the form that its argument names, on standard output.
+#![tactic(auto)]
+
 mod words;
 
 use base_refusal::{Refusal, TOO_MANY, refuse};

@@ -1,4 +1,6 @@
 // Answers a script of commands on cards line by line; the answers asked for are written down in advance.
+#![tactic(auto)]
+
 mod cards;
 
 use std::io::Stdout;

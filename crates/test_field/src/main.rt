@@ -1,4 +1,6 @@
 // Answers a script of commands line by line; the answers asked for are written down in advance.
+#![tactic(auto)]
+
 mod fields;
 
 use std::io::Stdout;

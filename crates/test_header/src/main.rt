@@ -1,4 +1,5 @@
 // Answers a script that makes headers: each line's answer is what the check says of the header as it then stands.
+#![tactic(auto)]
 
 use header_check::Checked;
 use std::io::Stdout;
