@@ -24,8 +24,10 @@ extern const char program[], forms[], help[], version[];
 extern const char *const trial_words[];
 extern const struct sample samples[];
 
-/* The proved program, and what it calls. */
-extern void proved(void) __asm__("main");
+/* Runs the proved program. */
+void proved(void);
+
+/* What it calls to read and to write. */
 ssize_t read(int file, void *to, size_t size);
 ssize_t write(int file, const void *from, size_t size);
 
@@ -42,7 +44,7 @@ void read_first(const char *from, const char *end);
 extern int error;
 const char *words_of(int number);
 
-/* Whether anything was said on standard error. */
+/* Whether anything was said on standard error, or the proved program has ended with another status than 0. */
 extern int complained;
 
 /* From now on a sample is read, and what is written is compared with its answer; without one, no longer. */

@@ -1,6 +1,9 @@
 /* What a proved program calls: the C library's functions and those of the toolchain's library os, over the kernel's calls. */
 #include "aboard.h"
 
+/* The proved program's entry. */
+extern int entry(void) __asm__("main");
+
 enum { CALL_READ = 0, CALL_WRITE = 1 };
 
 int error;
@@ -66,6 +69,11 @@ static ssize_t compare(const char *from, size_t size)
     return (ssize_t)size;
 }
 
+void proved(void)
+{
+    complained |= entry() != 0;
+}
+
 void hand(const char *word)
 {
     if (word_count < MOST_WORDS)
@@ -102,6 +110,14 @@ ssize_t write(int file, const void *from, size_t size)
 {
     complained |= file == STANDARD_ERROR;
     return tried && file == STANDARD_OUTPUT ? compare(from, size) : noted(kernel(CALL_WRITE, file, (long)from, (long)size));
+}
+
+/* A program begins by asking that a pipe without a reader be an error and no signal. Aboard it stays the signal that ends it. */
+void *__sysv_signal(int number, void *action)
+{
+    (void)number;
+    (void)action;
+    return 0;
 }
 
 /* The error, as the library os asks for it and sets it. */

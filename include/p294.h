@@ -1,6 +1,6 @@
 /* UKOOA P2/94 line headers: fields, cards, headers and the ties between cards, read, written and checked.
  *
- * Link with libp294.a, which `rt staticlib p294` writes to target/staticlib (x86-64 Linux, System V calls). The functions
+ * Link with libp294.a, which `tools/archive` writes to target/staticlib (x86-64 Linux, System V calls). The functions
  * keep nothing between calls, allocate nothing and want only memcpy and memset of the C library, so they may be called from
  * any thread. p294_check takes up to 256,000 bytes of stack, a put up to 600, every other function up to 4,000: somewhat less was
  * measured of each, and nothing is proved of the stack.

@@ -32,15 +32,16 @@ same() { # WHAT EXPECTED FOUND
 
 # Ends the test unless some programs are proved and built.
 built() { # PROGRAM..
-    local program
+    local program made
     for program in "$@"; do
-        [ -x "target/bin/$program" ] || fail "target/bin/$program is not there: rt check $program"
+        made=$(tools/made program "$program")
+        [ -x "$made" ] || fail "$made is not there: tools/build $program"
     done
 }
 
 # Runs a proved program on standard input.
-proved() { # PROGRAM
-    tools/x86 "target/bin/$1"
+proved() { # PROGRAM [WORD..]
+    tools/x86 "$(tools/made program "$1")" "${@:2}"
 }
 
 # Calls a command: $status is its status, $room/out and $room/err have what it says.
