@@ -1,4 +1,6 @@
 // A header checked, and the whole answer to the crew spelled.
+#![tactic(auto)]
+
 pub mod lines;
 
 ghost use Rattle.std.specs.Prelude.{◌≡◌, ◌*◌, ◌≤◌, length};

@@ -1,4 +1,6 @@
 // What a header says of a key: by class, and for streamers, nodes, motion sensors and observations each by its own number.
+#![tactic(auto)]
+
 pub mod questions;
 pub mod search;
 

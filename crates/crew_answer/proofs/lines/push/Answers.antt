@@ -1,0 +1,13 @@
+-- `push` meets its contract: past the end a store leaves all as it was.
+-- src/lib.rt:30:9
+use mathlib.Core.Path.{refl, sym}
+use lib.Seq.{set_out}
+use native.Mathlib.Omega.{arith}
+use Rattle.crew_answer.proofs.lines.push.Goals as goal
+
+pub returns : goal.returns
+returns c =
+    record {
+      out = sym (set_out _ _ _ (omega arith));
+      next = refl;
+    }

@@ -1,0 +1,15 @@
+-- `push_entry` meets its contract: the numbers of the entry stand one after the other in the list.
+-- src/lib.rt:107:16
+use mathlib.Core.Path.{◌∙◌}
+use native.Mathlib.Nat.{add-zero}
+use Rattle.crew_answer.specs.lines.Text.{entry_at}
+use Rattle.crew_answer.proofs.lines.push_entry.Goals as goal
+
+pub returns : goal.returns
+unfolding entry_at
+returns c =
+    record {
+      out = c.push_line.ensures.out ∙ rw (c.wide-card.ensures.same, c.wide-column.ensures.same, c.wide-kind.ensures.same, c.wide-vessel.ensures.same, add-zero);
+      next = c.push_line.ensures.next ∙ rw (c.wide-card.ensures.same, c.wide-column.ensures.same, c.wide-kind.ensures.same, c.wide-vessel.ensures.same, add-zero);
+      within = c.push_line.ensures.within;
+    }

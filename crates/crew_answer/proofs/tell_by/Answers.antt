@@ -1,0 +1,30 @@
+-- `tell_by` meets its contract: what the check answers is spelled.
+-- src/lib.rt:19:9
+use native.Mathlib.Omega.{arith}
+use mathlib.Core.Path.{◌∙◌, ap}
+use lib.ListN.{length}
+use Rattle.base_lists.specs.Laid.{laid}
+use Rattle.crew_answer.proofs.Listed.{told-found, told-refused}
+use Rattle.crew_answer.proofs.tell_by.Goals as goal
+
+pub returns-in-Found : goal.returns-in-Found
+returns-in-Found c =
+    let args = c.args in
+    let k = c.check-ties in
+    let p = c.spell_broken in
+    let e = told-found args.header.now k.result k.ensures.answer c.in-Found.n args.list.now k.new.list c.requires k.ensures.list c.in-Found.is in record {
+      bytes = p.ensures.bytes ∙ ap (laid 1 args.out.now) e;
+      size = p.ensures.size ∙ ap length e;
+      within = p.ensures.within;
+    }
+
+pub returns-in-Refused : goal.returns-in-Refused
+returns-in-Refused c =
+    let args = c.args in
+    let k = c.check-ties in
+    let p = c.spell_refused in
+    let e = told-refused args.header.now k.result k.ensures.answer c.in-Refused.r c.in-Refused.is in record {
+      bytes = p.ensures.bytes ∙ ap (laid 1 args.out.now) e;
+      size = p.ensures.size ∙ ap length e;
+      within = omega (arith, p.ensures.within);
+    }

@@ -1,0 +1,15 @@
+-- `tie_lookup::find_whole` meets its contract.
+use mathlib.Core.Path.{ap, ◌∙◌}
+use mathlib.Core.List.{[]}
+use lib.IntN.{ℤ}
+use mir.ValLaws.{to_z-of_z}
+use mir.Syntax.{w64}
+use Rattle.tie_lookup.specs.declared.questions.Key.TheVariants.{Whole}
+use Rattle.tie_lookup.specs.questions.Questions.{key_answer}
+use Rattle.tie_lookup.proofs.find_whole.Goals as goal
+
+pub returns : goal.returns
+returns c =
+    let a = c.args in
+    c.find_key.ensures
+    ∙ ap (λ (z : ℤ). key_answer a.header.now a.class (Whole z) []) (to_z-of_z w64 a.number c.ranges.number)
