@@ -1,4 +1,6 @@
 // Corrected compass headings: a raw reading with the fixed correction and that for the nearest listed direction, exactly.
+#![tactic(auto)]
+
 mod corrections;
 mod directions;
 mod serials;

@@ -1,5 +1,8 @@
 // The routes by which a survey's datums are brought to datum 1: for each of the nine datums the fewest shifts, and the cards of one
 // such route.
+
+#![tactic(auto)]
+
 pub mod joining;
 pub mod listing;
 pub mod routing;
