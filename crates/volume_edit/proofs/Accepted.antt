@@ -21,7 +21,7 @@ use Rattle.volume_form.proofs.Cards.{Good, good_row, length-trailer}
 use Rattle.volume_rules.specs.Volume.{joined, directory, volume_of}
 use Rattle.volume_rules.specs.Sound.{covers, headers_in, last_card, first_of, body_of, directory_of, headers_of}
 use Rattle.volume_rules.specs.Judged.{unless, volume_answer}
-use Rattle.volume_rules.specs.Converted.{few, few_on, holds, convert_checked}
+use Rattle.volume_rules.specs.Converted.{few_on, holds, convert_checked}
 use Rattle.volume_rules.specs.Latest.{latest, compacted}
 use Rattle.volume_rules.specs.SameLine.{same_line}
 use Rattle.volume_rules.specs.Packed.{Packed}

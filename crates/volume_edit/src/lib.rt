@@ -1,4 +1,6 @@
 // A volume written in its buffer: the empty one laid, a header appended. Everything is judged before the first byte is written.
+#![tactic(auto)]
+
 pub mod compact;
 pub mod convert;
 

@@ -1,0 +1,17 @@
+-- `volume_edit::judge_append` meets its contract.
+use mathlib.Core.Path.{sym, ◌∙◌}
+use Rattle.volume_form.specs.Rows.{row_of}
+use Rattle.volume_edit.proofs.Appends.{few-cards, volume_good, volume_refused}
+use Rattle.volume_edit.proofs.judge_append.Goals as goal
+
+pub judge_header-requires : goal.judge_header-requires
+judge_header-requires c =
+    few-cards c.args.form c.args.cards c.args.buffer.now (sym c.judge-checked.ensures ∙ c.in-Accepted.is)
+
+pub returns-in-Accepted : goal.returns-in-Accepted
+returns-in-Accepted c =
+    volume_good (row_of c.args.form) c.args.cards c.args.buffer.now c.args.header.now _ c.judge-checked.ensures c.in-Accepted.is _ c.judge_header.ensures
+
+pub returns-in-Refused : goal.returns-in-Refused
+returns-in-Refused c =
+    volume_refused (row_of c.args.form) c.args.cards c.args.buffer.now c.args.header.now _ c.judge-checked.ensures _ c.in-Refused.is
