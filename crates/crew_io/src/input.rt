@@ -1,9 +1,10 @@
 // Standard input, read to its end or until a lent buffer is full; a read that fails is told.
 ghost use Rattle.std.specs.Prelude.{◌≡◌, ◌≤◌, length};
 ghost use Rattle.crew_io.specs.input.Sizes.{Brings, size_of};
+ghost use Rattle.crew_io.specs.input.Taken.{Adds, Fills};
 
 use format_layout::{CARD, CARDS};
-use std::io::{Error, Read, Stdin};
+use std::io::{Error, Read};
 
 // The longest header, and one card more to notice a longer one.
 pub const ROOM: usize = (CARDS + 1) * CARD;
@@ -31,9 +32,10 @@ pub fn room() -> [u8; ROOM]
 }
 
 // Reads once, behind the bytes that came before.
-fn read_more(mut from: Stdin, buf: &mut [u8], done: usize) -> More
+fn read_more<R: Read>(from: &mut R, buf: &mut [u8], done: usize) -> More
     requires { done ≤ length buf.old }
-    ensures { Brings result done (length buf.old) }
+    ensures sizes { Brings result done (length buf.old) }
+    ensures bytes { Adds (R.remaining from.old) (R.remaining from.new) result done buf.old buf.new }
 {
     match from.read(&mut buf[done..]) {
         Ok(0) => More::End,
@@ -43,8 +45,9 @@ fn read_more(mut from: Stdin, buf: &mut [u8], done: usize) -> More
 }
 
 // Reads until the input ends or the buffer is full.
-pub fn read_all(from: Stdin, buf: &mut [u8]) -> Input
-    ensures { size_of result ≤ length buf.old }
+pub fn read_all<R: Read>(from: &mut R, buf: &mut [u8]) -> Input
+    ensures sizes { size_of result ≤ length buf.old }
+    ensures bytes { Fills (R.remaining from.old) (R.remaining from.new) result buf.new }
 {
     let mut done = 0;
     while done < buf.len() {

@@ -134,7 +134,7 @@ fn main(rt: HostRuntime) {
     let size = argument::word(&rt, 1, &mut word);
     let form = form_of(&word[..size]);
     let mut buf = [0u8; ROOM];
-    let input = input::read_all(rt.stdin(), &mut buf);
+    let input = input::read_all(&mut rt.stdin(), &mut buf);
     match input {
         Input::Whole(n) => convert(&rt, form, &buf[..n]),
         Input::Failed(why) => failure::tell(rt.stderr(), b"lineform: standard input", why),

@@ -121,7 +121,7 @@ fn reply(rt: &HostRuntime, header: &[u8]) {
 
 fn main(rt: HostRuntime) {
     let mut buf = [0u8; ROOM];
-    let input = input::read_all(rt.stdin(), &mut buf);
+    let input = input::read_all(&mut rt.stdin(), &mut buf);
     match input {
         Input::Whole(n) => reply(&rt, &buf[..n]),
         Input::Failed(why) => failure::tell(rt.stderr(), b"lineshow: standard input", why),

@@ -106,7 +106,7 @@ fn counted(rt: &HostRuntime, size: usize) -> Taken {
 
 // Reads a volume to the end of the input.
 fn take(rt: &HostRuntime, volume: &mut [u8]) -> Taken {
-    let input = input::read_all(rt.stdin(), volume);
+    let input = input::read_all(&mut rt.stdin(), volume);
     match input {
         Input::Whole(n) => counted(rt, n),
         Input::Failed(why) => {
@@ -173,7 +173,7 @@ fn append_to(rt: &HostRuntime, header: &[u8]) {
 
 // Reads the header, which fills what is lent for it.
 fn append_from(rt: &HostRuntime, header: &mut [u8]) {
-    let input = input::read_all(rt.stdin(), header);
+    let input = input::read_all(&mut rt.stdin(), header);
     match input {
         Input::Whole(n) => append_to(rt, first(header, n)),
         Input::Failed(why) => failure::tell(rt.stderr(), b"linevolume: standard input", why),

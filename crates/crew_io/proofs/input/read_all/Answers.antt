@@ -1,28 +1,26 @@
--- `read_all` is safe and ends: each read brings a byte at least, or is the last.
-use mathlib.Core.Path.{subst}
-use Rattle.crew_io.specs.declared.input.More.{More}
-use Rattle.crew_io.specs.declared.input.More.TheVariants.{Bytes}
-use Rattle.crew_io.specs.input.Sizes.{Brings}
-use Prim.Native.Nat.{ℕ, ◌≤◌, ◌+◌}
-use mathlib.Core.Path.{◌≡◌}
-use lib.ListN.{length}
-use borrow.Author.Rules.{rules}
+-- What one read adds to the reader's bytes that were read before.
+use native.Mathlib.Omega.{arith}
+use Rattle.std.proofs.Common.{rules, ◌≡◌, ◌+◌, ◌++◌, ℕ, List}
+use Rattle.std.specs.Prelude.{take, drop, None, Some}
+use Rattle.std.specs.declared.option.Option.{Option}
+use Rattle.std.specs.Io.KnownBytes.{Consumes}
+use Rattle.std.proofs.Math.Seq.{take-add}
+use Rattle.std.proofs.lemmas.List.{append_assoc}
 use Rattle.crew_io.proofs.input.read_all.Goals as goal
 
-brought : (m : More) (n done room : ℕ) → m ≡ Bytes n → Brings m done room → (1 ≤ n) × (done + n ≤ room)
-brought m n done room e b = subst (λ (x : More). Brings x done room) e b
+-- a reader that gives some bytes, and then more, gives both
+both : (a b c : Option (List ℕ)) (xs ys zs : List ℕ) → zs ≡ xs ++ ys → Consumes a b xs → Consumes b c ys → Consumes a c zs
+both None b c xs ys zs e h k = _
+both (Some s) (Some t) None xs ys zs e h k = k
+both (Some s) (Some t) (Some u) xs ys zs e h k = grind (arith, append_assoc)
+both (Some s) None c xs ys zs e h k = elim h [ ]
 
-pub overflow_add-done : goal.overflow_add-done
-overflow_add-done c =
-    let q = brought c.read_more-more.result c.in-Bytes.n c.loop-done.done (length c.loop-done.buf) c.in-Bytes.is c.read_more-more.ensures in
-    search (rules, q.0, q.1)
-
-pub loop-done-smaller : goal.loop-done-smaller
-loop-done-smaller c =
-    let q = brought c.read_more-more.result c.in-Bytes.n c.loop-done.done (length c.loop-done.buf) c.in-Bytes.is c.read_more-more.ensures in
-    search (rules, q.0, q.1)
+-- the bytes that came before, and those of one more read
+grown : (a b c : Option (List ℕ)) (done n : ℕ) (was is : List ℕ)
+    → take done is ≡ take done was → Consumes a b (take done was) → Consumes b c (take n (drop done is)) → Consumes a c (take (done + n) is)
+grown a b c done n was is e h k = both a b c (take done was) (take n (drop done is)) (take (done + n) is) (grind (arith, take-add)) h k
 
 pub loop-done-preserved : goal.loop-done-preserved
-loop-done-preserved c =
-    let q = brought c.read_more-more.result c.in-Bytes.n c.loop-done.done (length c.loop-done.buf) c.in-Bytes.is c.read_more-more.ensures in
-    search (rules, q.0, q.1)
+loop-done-preserved g c =
+    let q = grown _ _ _ _ _ _ _ c.in-Bytes.ensures.bytes.0 c.loop-done.invariant.2 c.in-Bytes.ensures.bytes.1 in
+    search (rules, q, c.in-Bytes.ensures.sizes)
