@@ -138,12 +138,12 @@ module _ (k : ℕ) (form : Form) (s : List ℕ) where
       | yes z ↦
           let w : f.first + (f.last + 1 - f.first) ≡ f.last + 1 = omega (arith, lie.forward) in
           rw (eq-eqb (field_offence k form s f) 0 z)
-          (skips here (f.last + 1 - f.first) f.first (omega (arith, lie.forward, lie.on_card_lem)) (λ j a b. none z j a (omega (arith, w)))
+          (skips here (f.last + 1 - f.first) f.first (omega (arith, lie.forward, lie.on_card)) (λ j a b. none z j a (omega (arith, w)))
           ∙ ap (verdict_from here) w
-          ∙ agree here later (f.last + 1) (omega (arith, lie.on_card_lem)) (λ j a. behind j (omega arith)))
+          ∙ agree here later (f.last + 1) (omega (arith, lie.on_card)) (λ j a. behind j (omega arith)))
       | no z ↦
           rw (ne_eqb (field_offence k form s f) 0 z)
-          (decides here f.first (omega (arith, lie.forward, lie.on_card_lem)) (λ y. z (sym at_first ∙ y)) ∙ ap (λ n. Offence n f.first) at_first)
+          (decides here f.first (omega (arith, lie.forward, lie.on_card)) (λ y. z (sym at_first ∙ y)) ∙ ap (λ n. Offence n f.first) at_first)
     ]
       where
         none : field_offence k form s f ≡ 0 → (j : ℕ) → f.first ≤ j → j < f.last + 1 → here j ≡ 0
@@ -155,7 +155,7 @@ module _ (k : ℕ) (form : Form) (s : List ℕ) where
     -- the columns up to a field, the field, and then the columns behind it
     pub next_field : verdict_from here c ≡ then_on (next_verdict k form s f c) (verdict_from later (f.last + 1))
     unfolding next_verdict
-    next_field = gap s here (f.first - c) c (omega (arith, lie.after, lie.forward, lie.on_card_lem)) (λ j a b. before-field j (omega (arith, e))) ∙ rw e (go (ltb (first_from (filled_at s) (f.first - c) c) f.first) (first_from (filled_at s) (f.first - c) c))
+    next_field = gap s here (f.first - c) c (omega (arith, lie.after, lie.forward, lie.on_card)) (λ j a b. before-field j (omega (arith, e))) ∙ rw e (go (ltb (first_from (filled_at s) (f.first - c) c) f.first) (first_from (filled_at s) (f.first - c) c))
       where
         e : c + (f.first - c) ≡ f.first
         e = omega (arith, lie.after)

@@ -46,7 +46,7 @@ module _ (k : ℕ) (form : Form) (s : List ℕ) where
       let q : first_from (filled_at s) (f.first - c) c ≡ c + (f.first - c) = none_filled s (f.first - c) c (subst (λ (d : ℕ). Gap s c d) (sym e) h.0) in
       let z = no_offence k form s f 0 (sym (h.1 form).0) refl in
       let v : next_verdict k form s f c ≡ Fine = next_fine k form s f c (c + (f.first - c)) f.first refl (sym q) (omega (arith, e)) 0 (sym z) refl in
-      let more = fields_fine fs (f.last + 1) (omega (arith, li.on_card_lem)) (subst (λ j. T (is_in_order j fs)) (sym (add-one f.last)) (rest c f fs o)) h.2 in
+      let more = fields_fine fs (f.last + 1) (omega (arith, li.on_card)) (subst (λ j. T (is_in_order j fs)) (sym (add-one f.last)) (rest c f fs o)) h.2 in
       next_field k form s f fs c o ∙ ap (λ (x : Verdict). then_on x (verdict_from (column_offence k form s fs) (f.last + 1))) v ∙ more
 
   pub sure_fine : length s ≡ 80 → sure k s ≡ true → verdict_from (offence_at k form s) 6 ≡ Fine

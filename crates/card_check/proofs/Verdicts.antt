@@ -22,7 +22,7 @@ module _ (offence : ℕ → ℕ) where
   -- from column c on, column d is the first with an offence, and its number is n
   pub record First (c n d : ℕ) : Type 0 where
     pub from : c ≤ d
-    pub on_card_lem : d ≤ 80
+    pub on_card : d ≤ 80
     pub number : offence d ≡ n
     pub some : n ≡ 0 → ⊥
     pub none_before : (j : ℕ) → c ≤ j → j < d → offence j ≡ 0
@@ -36,7 +36,7 @@ module _ (offence : ℕ → ℕ) where
         let f : First (suc c) n d = first_of m (suc c) (omega arith) n d (sym (passes offence c (omega arith) z) ∙ e) in
         record {
           from = omega (arith, f.from);
-          on_card_lem = f.on_card_lem;
+          on_card = f.on_card;
           number = f.number;
           some = f.some;
           none_before = λ j a b. elim (ℕ_discrete c j) [ yes q ↦ ap offence (sym q) ∙ z | no q ↦ f.none_before j (omega arith) b ];
@@ -47,7 +47,7 @@ module _ (offence : ℕ → ℕ) where
         let r : c ≡ d = same_column (offence c) n c d o in
         record {
           from = omega arith;
-          on_card_lem = omega arith;
+          on_card = omega arith;
           number = ap offence (sym r) ∙ q;
           some = λ y. z (q ∙ y);
           none_before = λ j a b. absurd (omega arith);

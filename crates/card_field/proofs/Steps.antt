@@ -36,7 +36,7 @@ pub found-fits : (s : List ℕ) (n form k : ℕ) (f : Field) → sought_of s n f
 found-fits s n form k f q =
     let h = found-there s n form k f q in
     let l = found_lies k n f h.field in
-    (h.whole, omega (arith, l.after), l.forward, l.on_card_lem)
+    (h.whole, omega (arith, l.after), l.forward, l.on_card)
 
 -- the answer for a field, at its first column
 pub answered_not : (f : Field) (b : Bool) (j : Judged) (n column : ℕ) → j ≡ judged.Not n → column ≡ f.first

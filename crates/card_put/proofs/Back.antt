@@ -51,7 +51,7 @@ module _ (s : List ℕ) (n form k : ℕ) (f : Field) (q : sought_of s n form ≡
   forward = (found_lies k n f (found-there s n form k f q).field).forward
 
   on_card_lem : f.last ≤ length s
-  on_card_lem = let l = found_lies k n f (found-there s n form k f q).field in omega (arith, whole, l.on_card_lem)
+  on_card_lem = let l = found_lies k n f (found-there s n form k f q).field in omega (arith, whole, l.on_card)
 
   before : length (take (f.first - 1) s) ≡ f.first - 1
   before = length-take-le (f.first - 1) s (omega (arith, after_code, forward, on_card_lem))

@@ -99,10 +99,10 @@ module _ (k : ℕ) (s : List ℕ) (whole : length s ≡ 80) where
       ∙ ap (λ (t : List ℕ). runs (roles_in f ++ roles_from (f.last + 1) fs) t q1) (to-field c f li l)
       ∙ runs_append (roles_in f) (roles_from (f.last + 1) fs) (drop (f.first - 1) s) q1
       ∙ ap (λ (t : List ℕ). runs (roles_from (f.last + 1) fs) t q2) (past_field c f li l size) in
-      let more = screened fs (f.last + 1) q2 (omega arith) (omega (arith, li.on_card_lem)) (subst (λ j. T (is_in_order j fs)) (sym (add-one f.last)) (rest c f fs o)) v.1 (subst (λ (z : ℕ). T (ends z)) all h) in
-      let known = field_fine k s whole f (omega (arith, li.after)) li.forward li.on_card_lem x.0 x.1 size in
+      let more = screened fs (f.last + 1) q2 (omega arith) (omega (arith, li.on_card)) (subst (λ j. T (is_in_order j fs)) (sym (add-one f.last)) (rest c f fs o)) v.1 (subst (λ (z : ℕ). T (ends z)) all h) in
+      let known = field_fine k s whole f (omega (arith, li.after)) li.forward li.on_card x.0 x.1 size in
       let e : c + n ≡ f.first = omega (arith, li.after) in
-      let r = gap_run n c q l (omega (arith, li.after, li.forward, li.on_card_lem)) (known form.Angles q1 more.0).0 in
+      let r = gap_run n c q l (omega (arith, li.after, li.forward, li.on_card)) (known form.Angles q1 more.0).0 in
       (r.0, (subst (λ (d : ℕ). Gap s c d) e r.1, (λ φ. ((known φ q1 more.0).1, (known φ q1 more.0).2)), more.1))
 
 -- every plain layout has fields that suit

@@ -38,7 +38,7 @@ all_ordered = tt
 pub record Lies (c : ℕ) (f : Field) : Type 0 where
   pub after : c ≤ f.first
   pub forward : f.first ≤ f.last
-  pub on_card_lem : f.last ≤ 80
+  pub on_card : f.last ≤ 80
 
 module _ (c : ℕ) (f : Field) (fs : List Field) (t : T (is_in_order c (f ∷ fs))) where
   past : T (leb f.first f.last && (leb f.last 80 && is_in_order (suc f.last) fs))
@@ -55,7 +55,7 @@ module _ (c : ℕ) (f : Field) (fs : List Field) (t : T (is_in_order c (f ∷ fs
       record {
         after = leb→le _ _ (and_left (leb c f.first) (leb f.first f.last && (leb f.last 80 && is_in_order (suc f.last) fs)) t);
         forward = leb→le _ _ (and_left (leb f.first f.last) (leb f.last 80 && is_in_order (suc f.last) fs) past);
-        on_card_lem = leb→le _ _ (and_left (leb f.last 80) (is_in_order (suc f.last) fs) more);
+        on_card = leb→le _ _ (and_left (leb f.last 80) (is_in_order (suc f.last) fs) more);
       }
 
 lies : (c : ℕ) (fs : List Field) → T (is_in_order c fs) → (i : ℕ) → i < length fs → Lies c (get_or fs i no_field)
@@ -66,7 +66,7 @@ lies c (f ∷ fs) t (suc i) h =
     record {
       after = omega (arith, (front c f fs t).after, (front c f fs t).forward, l.after);
       forward = l.forward;
-      on_card_lem = l.on_card_lem;
+      on_card = l.on_card;
     }
 
 follows : (c : ℕ) (fs : List Field) → T (is_in_order c fs) → (i j : ℕ) → i < j → j < length fs

@@ -131,7 +131,7 @@ module _ (h : List ℕ) (a : refusal_of h ≡ Accepted) (c : ℕ) (l : c < cards
         let s : List ℕ = card_at h c in
         let form : Form = form_of h s in
         let lies = found_lies k n f e in
-        let z = sym (field-offence k form s n f e) ∙ clean.columns k code_is f.first (omega (arith, lies.after)) (omega (arith, lies.forward, lies.on_card_lem)) in
+        let z = sym (field-offence k form s n f e) ∙ clean.columns k code_is f.first (omega (arith, lies.after)) (omega (arith, lies.forward, lies.on_card)) in
         ap (λ x. number_of (held_of (needed_on k s f) f (reading_of x (columns_of f s)))) (sym (same_spelling f.kind form o))
         ∙ go (is_open form) (rw o at z)
       where

@@ -45,13 +45,13 @@ pub record Clean (s : List ℕ) (form : Form) (placed : Bool) : Type 0 where
 first_decides : (offence : ℕ → ℕ) (m c n d : ℕ) → c + m ≡ d → First offence c n d → verdict_from offence c ≡ Offence n d
 first_decides offence zero c n d e f =
     let q : c ≡ d = omega arith in
-    decides offence c (omega (arith, f.on_card_lem)) (λ z. f.some (sym f.number ∙ ap offence (sym q) ∙ z))
+    decides offence c (omega (arith, f.on_card)) (λ z. f.some (sym f.number ∙ ap offence (sym q) ∙ z))
     ∙ ap₂ Offence (ap offence q ∙ f.number) q
 first_decides offence (suc m) c n d e f =
-    passes offence c (omega (arith, f.on_card_lem)) (f.none_before c (omega arith) (omega arith))
+    passes offence c (omega (arith, f.on_card)) (f.none_before c (omega arith) (omega arith))
     ∙ first_decides offence m (suc c) n d (omega arith) (record {
       from = omega arith;
-      on_card_lem = f.on_card_lem;
+      on_card = f.on_card;
       number = f.number;
       some = f.some;
       none_before = λ j a b. f.none_before j (omega arith) b;

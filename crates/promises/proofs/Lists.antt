@@ -39,11 +39,11 @@ pub nothing_else : (h e : List ℕ) → Memᴰ e (list_of h)
 nothing_else h e m =
     let r = complete.only-faults h e m in
     let f = r.5 in
-    let q : r.0 - 1 + 1 ≡ r.0 = omega (arith, f.first_card_lem) in (
+    let q : r.0 - 1 + 1 ≡ r.0 = omega (arith, f.first_card) in (
       r.0 - 1,
       r.1,
       r.2,
-      omega (arith, f.first_card_lem, f.last_card_lem),
+      omega (arith, f.first_card, f.last_card),
       f.is-broken,
       r.4 ∙ ap₂ (λ n v. n ∷ r.1 ∷ r.2 ∷ v ∷ []) (sym q) f.is_vessel,
     )

@@ -43,8 +43,8 @@ module _ (h : List ℕ) where
           let back : first p n + 1 - 1 ≡ first p n = omega arith in (
             q,
             subst (λ k. Joined h k a b) (sym is) (record {
-              first_card_lem = omega arith;
-              last_card_lem = omega arith;
+              first_card = omega arith;
+              last_card = omega arith;
               next_datum = m;
               joins_them = rw back (first_passes p n l);
             }),
@@ -63,9 +63,9 @@ module _ (h : List ℕ) where
   unfolding joining joining_to first_number
   lowest_card a b c other j =
       let l = first-least (joins h a b) (cards_in h) (c - 1) j.joins_them in
-      let below : first (joins h a b) (cards_in h) < cards_in h = omega (arith, j.first_card_lem, j.last_card_lem, l) in
+      let below : first (joins h a b) (cards_in h) < cards_in h = omega (arith, j.first_card, j.last_card, l) in
       rw (ne_eqb a b other, lt-ltb (first (joins h a b) (cards_in h)) (cards_in h) below)
-      (lt-ltb 0 (first (joins h a b) (cards_in h) + 1) (omega arith), omega (arith, l, j.first_card_lem))
+      (lt-ltb 0 (first (joins h a b) (cards_in h) + 1) (omega arith), omega (arith, l, j.first_card))
 
   -- a chain of any length, and one that goes by the lowest cards
   chain_reaches : (cs : List ℕ) (a : ℕ) → a < 9 → Chain h a cs → (n : ℕ) × (n ≤ length cs) × (reach by n a ≡ true)

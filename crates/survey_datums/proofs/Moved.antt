@@ -46,21 +46,21 @@ module _ (h h' : List ℕ) (π : Rearranged (cards_in h)) (same : length h' ≡ 
 
   there : (a b c : ℕ) → Joined h c a b → Joined h' (π.to (c - 1) + 1) a b
   there a b c j =
-      let l : c - 1 < cards_in h = omega (arith, j.first_card_lem, j.last_card_lem) in
+      let l : c - 1 < cards_in h = omega (arith, j.first_card, j.last_card) in
       record {
-        first_card_lem = omega arith;
-        last_card_lem = omega (arith, π.to_below (c - 1) l, as_many_cards h h' same);
+        first_card = omega arith;
+        last_card = omega (arith, π.to_below (c - 1) l, as_many_cards h h' same);
         next_datum = j.next_datum;
         joins_them = rw (back (π.to (c - 1))) (joins-moved a b (c - 1) l ∙ j.joins_them);
       }
 
   again : (a b c : ℕ) → Joined h' c a b → Joined h (π.from (c - 1) + 1) a b
   again a b c j =
-      let l : c - 1 < cards_in h = omega (arith, j.first_card_lem, j.last_card_lem, as_many_cards h h' same) in
+      let l : c - 1 < cards_in h = omega (arith, j.first_card, j.last_card, as_many_cards h h' same) in
       let m = π.from_below (c - 1) l in
       record {
-        first_card_lem = omega arith;
-        last_card_lem = omega (arith, m);
+        first_card = omega arith;
+        last_card = omega (arith, m);
         next_datum = j.next_datum;
         joins_them = rw (back (π.from (c - 1)))
             (sym (joins-moved a b (π.from (c - 1)) m) ∙ ap (joins h' a b) (π.to-from (c - 1) l) ∙ j.joins_them);

@@ -5,8 +5,8 @@ use Rattle.survey_datums.specs.Datums.{joins}
 
 -- a card of the header joins two datums, either way
 pub record Joined (h : List ℕ) (card a b : ℕ) : Type 0 where
-  pub first_card_lem : 1 ≤ card
-  pub last_card_lem : card ≤ cards_in h
+  pub first_card : 1 ≤ card
+  pub last_card : card ≤ cards_in h
   pub next_datum : b < 9
   pub joins_them : joins h a b (card - 1) ≡ true
 

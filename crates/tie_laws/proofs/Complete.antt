@@ -26,8 +26,8 @@ list_of h = map (entry_of h) (faults h)
 
 -- a broken tie of the header: its card and column, both counted from 1, its kind, and the vessel digit in the card's code
 pub record Fault (h : List ℕ) (card column kind vessel : ℕ) : Type 0 where
-  pub first_card_lem : 1 ≤ card
-  pub last_card_lem : card ≤ cards_in h
+  pub first_card : 1 ≤ card
+  pub last_card : card ≤ cards_in h
   pub first-column : 1 ≤ column
   pub last-column : column ≤ 80
   pub first_kind : 1 ≤ kind
@@ -94,9 +94,9 @@ module _ (h : List ℕ) where
   unfolding faults triples broken_at
   fault_kept card column kind vessel f =
       let n : ℕ = number_of card column kind in
-      let q = entry-numbered card column kind f.first_card_lem f.first-column f.last-column f.first_kind f.last_kind in
+      let q = entry-numbered card column kind f.first_card f.first-column f.last-column f.first_kind f.last_kind in
       let c : n / on_card ≡ card - 1 = omega (arith, q.0) in
-      let m : Memᴰ n (up_to (on_card * cards_in h)) = into-up_to (on_card * cards_in h) n (omega (arith, f.first_card_lem, f.last_card_lem, f.last-column, f.last_kind)) in
+      let m : Memᴰ n (up_to (on_card * cards_in h)) = into-up_to (on_card * cards_in h) n (omega (arith, f.first_card, f.last_card, f.last-column, f.last_kind)) in
       into_kept (broken_at h) (up_to (on_card * cards_in h)) m (rw (c, q.1, q.2) f.is-broken)
 
   -- a number among the faults is that of a fault
@@ -108,8 +108,8 @@ module _ (h : List ℕ) where
       let l : t < on_card * cards_in h = out-of-up_to (on_card * cards_in h) t r.0 in
       let c : t / on_card + 1 - 1 ≡ t / on_card = omega arith in
       record {
-        first_card_lem = omega arith;
-        last_card_lem = omega arith;
+        first_card = omega arith;
+        last_card = omega arith;
         first-column = omega arith;
         last-column = omega arith;
         first_kind = omega arith;
@@ -123,7 +123,7 @@ module _ (h : List ℕ) where
   unfolding entry_of
   is-listed card column kind vessel f =
       let n : ℕ = number_of card column kind in
-      let q = entry-numbered card column kind f.first_card_lem f.first-column f.last-column f.first_kind f.last_kind in
+      let q = entry-numbered card column kind f.first_card f.first-column f.last-column f.first_kind f.last_kind in
       let c : n / on_card ≡ card - 1 = omega (arith, q.0) in
       let v : vessel_of (card_at h (n / on_card)) ≡ vessel = rw c (sym f.is_vessel) in
       let e : entry_of h n ≡ card ∷ column ∷ kind ∷ vessel ∷ [] = rw (q.0, q.1, q.2, v) in
@@ -161,8 +161,8 @@ module _ (h : List ℕ) where
   broken-listed c column kind vessel l = (
     λ m. let f = is_fault (c + 1) column kind vessel m in (rw back at f.is-broken, rw back at f.is_vessel),
     λ e. let b = broken_bounds h c column kind e.0 in is-listed (c + 1) column kind vessel (record {
-      first_card_lem = omega arith;
-      last_card_lem = omega arith;
+      first_card = omega arith;
+      last_card = omega arith;
       first-column = b.0.0;
       last-column = b.0.1;
       first_kind = b.1.0;

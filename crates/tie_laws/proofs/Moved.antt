@@ -112,8 +112,8 @@ module _ (h h' : List ℕ) (m : Reordered h h') where
       → Fault h (c + 1) column kind vessel ↔ Fault h' (m.order.to c + 1) column kind vessel
   fault_moved c column kind vessel l t = (
     λ f. record {
-      first_card_lem = omega arith;
-      last_card_lem = omega (arith, m.order.to_below c l t);
+      first_card = omega arith;
+      last_card = omega (arith, m.order.to_below c l t);
       first-column = f.first-column;
       last-column = f.last-column;
       first_kind = f.first_kind;
@@ -122,8 +122,8 @@ module _ (h h' : List ℕ) (m : Reordered h h') where
       is_vessel = rw (back (m.order.to c), m.same_card c l t) (rw (back c) at f.is_vessel);
     },
     λ f. record {
-      first_card_lem = omega arith;
-      last_card_lem = omega arith;
+      first_card = omega arith;
+      last_card = omega arith;
       first-column = f.first-column;
       last-column = f.last-column;
       first_kind = f.first_kind;
@@ -180,8 +180,8 @@ module _ (h h' : List ℕ) (m : Reordered h h') where
       let a : m.order.to c + 1 - 1 ≡ m.order.to c = omega arith in
       let b : c + 1 - 1 ≡ c = back c in
       let q = r.2.nowhere_else (m.order.to c + 1) column (record {
-        first_card_lem = omega arith;
-        last_card_lem = omega (arith, m.order.to_below c l t);
+        first_card = omega arith;
+        last_card = omega (arith, m.order.to_below c l t);
         first-column = x.first-column;
         last-column = x.last-column;
         defines_it = rw (a, m.same_card c l t) (rw b at x.defines_it);

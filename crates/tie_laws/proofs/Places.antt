@@ -62,8 +62,8 @@ pair_there p (suc n) o = go (p n) refl (λ k. pair_there p n k)
 
 -- a column of a card, both counted from 1, defines the key of a class
 pub record Defines (h : List ℕ) (class : ℕ) (key : List ℕ) (card column : ℕ) : Type 0 where
-  pub first_card_lem : 1 ≤ card
-  pub last_card_lem : card ≤ cards_in h
+  pub first_card : 1 ≤ card
+  pub last_card : card ≤ cards_in h
   pub first-column : 1 ≤ column
   pub last-column : column ≤ 80
   pub defines_it : defines_key (card_at h (card - 1)) class key column ≡ true
@@ -101,8 +101,8 @@ module _ (h : List ℕ) (class : ℕ) (key : List ℕ) where
   pub of_number : (p : ℕ) → p < places h → defined_at h class key p ≡ true → Defines h class key (p / 80 + 1) (column_of p)
   unfolding places defined_at card_of column_of
   of_number p l e = let c : p / 80 + 1 - 1 ≡ p / 80 = omega arith in record {
-    first_card_lem = omega arith;
-    last_card_lem = omega arith;
+    first_card = omega arith;
+    last_card = omega arith;
     first-column = omega arith;
     last-column = omega arith;
     defines_it = rw c e;
@@ -155,7 +155,7 @@ module _ (h : List ℕ) (class : ℕ) (key : List ℕ) where
               nowhere_else = λ c d x.
                   let n = to_number c d x in
                   let q : number_of c d ≡ f = count_one (defined_at h class key) (places h) o (number_of c d) f n.0 l n.1 e in
-                  let a = at_number c d x.first_card_lem x.first-column x.last-column in
+                  let a = at_number c d x.first_card x.first-column x.last-column in
                   (sym a.0 ∙ ap (λ r. r / 80 + 1) q, sym a.1 ∙ ap column_of q);
             },
           )
@@ -202,7 +202,7 @@ module _ (h : List ℕ) (class : ℕ) (key : List ℕ) where
           ]
             where
               a : (number_of card column / 80 + 1 ≡ card) × (column_of (number_of card column) ≡ column)
-              a = at_number card column d.first_card_lem d.first-column d.last-column
+              a = at_number card column d.first_card d.first-column d.last-column
 
       several : Elsewhere h class key card column → 2 ≤ count (defined_at h class key) (places h)
       several x =
@@ -214,9 +214,9 @@ module _ (h : List ℕ) (class : ℕ) (key : List ℕ) where
                 let p : ℕ = number_of x.other_card x.other-column in
                 let q : p ≡ number_of card column =
                 count_one (defined_at h class key) (places h) e p (number_of card column) m.0 n.0 m.1 n.1 in
-                let a = at_number card column d.first_card_lem d.first-column d.last-column in
+                let a = at_number card column d.first_card d.first-column d.last-column in
                 let y = x.there in
-                let b = at_number x.other_card x.other-column y.first_card_lem y.first-column y.last-column in
+                let b = at_number x.other_card x.other-column y.first_card y.first-column y.last-column in
                 absurd (x.another (sym b.0 ∙ ap (λ r. r / 80 + 1) q ∙ a.0, sym b.1 ∙ ap column_of q ∙ a.1))
             | no e ↦ omega arith
           ]

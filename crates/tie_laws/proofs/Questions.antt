@@ -98,8 +98,8 @@ module _ (h : List ℕ) (c column : ℕ) where
     defines_own held =
         let e : c + 1 - 1 ≡ c = omega arith in
         record {
-          first_card_lem = omega arith;
-          last_card_lem = omega arith;
+          first_card = omega arith;
+          last_card = omega arith;
           first-column = first-column;
           last-column = last-column;
           defines_it = rw (e, held, eq-eqb (class_at defines (card_at h c) column) (class_at defines (card_at h c) column) refl)

@@ -191,7 +191,7 @@ number-column b (f ∷ fs) t l column e =
     ⊎_elim
     (λ x.
     let c : f.first ≡ column = eqb-true f.first column ((both (eqb f.first column) _).0 x).0 in
-    (omega (arith, p.after), omega (arith, p.forward, p.on_card_lem)))
+    (omega (arith, p.after), omega (arith, p.forward, p.on_card)))
     (λ x. number-column (suc f.last) fs (rest b f fs t) (omega arith) column x)
     (either (eqb f.first column && is_number (spelling_of f.kind Angles)) (number_among fs column) e)
 

@@ -123,7 +123,7 @@ module _ (h : List ℕ) (class : ℕ) (key : List ℕ) where
   listed_here : (card column c d : ℕ) → Defines h class key card column → Defines h class key c d → Differ c d card column
       → ListedTwice h card column
   listed_here card column c d x y apart =
-      let e : card - 1 + 1 ≡ card = omega (arith, x.first_card_lem) in
+      let e : card - 1 + 1 ≡ card = omega (arith, x.first_card) in
       rw e at (listed-there (card - 1) column (omega (arith, x)) x.first-column x.last-column x.defines_it
       (record { other_card = c; other-column = d; there = y; another = λ q. apart (q.0 ∙ e, q.1) }))
 
@@ -152,8 +152,8 @@ unfolding cards_in example
 found_at =
     let r = (one_exactly example 2 (1 ∷ [])).0 one_streamer in
     let q = r.2.nowhere_else 10 7 (record {
-      first_card_lem = omega arith;
-      last_card_lem = omega arith;
+      first_card = omega arith;
+      last_card = omega arith;
       first-column = omega arith;
       last-column = omega arith;
       defines_it = defined_there;

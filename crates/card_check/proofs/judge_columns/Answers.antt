@@ -37,7 +37,7 @@ judge_next-next-requires c =
     let i = row_inside k b.number _ r z in
     let e = row-there k b.number _ r z in
     let l = stands k b.number b.column (unpack c.row_of-row.result) i e b.invariant.3 in
-    (c.requires.0, b.invariant.1, omega (arith, b.invariant.1, l.after), l.forward, l.on_card_lem, found_wide k (b.number + 1) (unpack c.row_of-row.result) e)
+    (c.requires.0, b.invariant.1, omega (arith, b.invariant.1, l.after), l.forward, l.on_card, found_wide k (b.number + 1) (unpack c.row_of-row.result) e)
 
 pub returns-in_default : goal.returns-in_default
 returns-in_default c =
@@ -58,7 +58,7 @@ overflow_add-column c =
     let z = c.if-row-eq0.false in
     let i = row_inside k b.number _ r z in
     let e = row-there k b.number _ r z in
-    omega (arith, c.last_of-column.ensures, (stands k b.number b.column (unpack c.row_of-row.result) i e b.invariant.3).on_card_lem)
+    omega (arith, c.last_of-column.ensures, (stands k b.number b.column (unpack c.row_of-row.result) i e b.invariant.3).on_card)
 
 pub overflow_add-number-in-loop-form : goal.overflow_add-number-in-loop-form
 overflow_add-number-in-loop-form c = omega (arith, c.loop-form.invariant.0, fields-few c.args.layout)
@@ -86,4 +86,4 @@ loop-form-preserved c =
     let q = c.last_of-column.ensures in
     let o = onward k b.number b.column f i e b.invariant.3 in
     let w = walks_on k b.number b.column f i e b.invariant.3 a.form a.card.now c.judge_next-next.result c.judge_next-next.ensures c.in-Fine.is in
-    (omega (arith, i), omega arith, omega (arith, q, (stands k b.number b.column f i e b.invariant.3).on_card_lem), rw q o, b.invariant.4 ∙ rw q w)
+    (omega (arith, i), omega arith, omega (arith, q, (stands k b.number b.column f i e b.invariant.3).on_card), rw q o, b.invariant.4 ∙ rw q w)

@@ -69,7 +69,7 @@ module _ (s : List ℕ) (n form k : ℕ) (f : Field) (q : sought_of s n form ≡
   lies : Lies 6 f
   lies =
       let l = found_lies k n f (found-there s n form k f q).field in
-      record { after = omega (arith, l.after); forward = l.forward; on_card_lem = l.on_card_lem }
+      record { after = omega (arith, l.after); forward = l.forward; on_card = l.on_card }
 
   wide : length {A = ℕ} (replicate (width f) 32) ≡ width f
   wide = length-replicate (width f) 32
@@ -85,13 +85,13 @@ module _ (s : List ℕ) (n form k : ℕ) (f : Field) (q : sought_of s n form ≡
 
   same_front : take (f.first - 1) (blanked_in f s) ≡ take (f.first - 1) s
   unfolding blanked_in placed_in
-  same_front = take_put (f.first - 1) (width f) s (replicate (width f) 32) (omega (arith, whole, lies.forward, lies.on_card_lem))
+  same_front = take_put (f.first - 1) (width f) s (replicate (width f) 32) (omega (arith, whole, lies.forward, lies.on_card))
 
   same_behind : drop f.last (blanked_in f s) ≡ drop f.last s
   unfolding blanked_in placed_in
   same_behind =
       drop_put (f.first - 1) f.last s (replicate (width f) 32) (omega (arith, lies.forward))
-      (omega (arith, whole, lies.on_card_lem)) wide
+      (omega (arith, whole, lies.on_card)) wide
 
   still_whole : length (blanked_in f s) ≡ 80
   still_whole = (found-there (blanked_in f s) n form k f found-again).whole
@@ -104,7 +104,7 @@ module _ (s : List ℕ) (n form k : ℕ) (f : Field) (q : sought_of s n form ≡
     there : Lies 6 g
     there =
         let l = after_label k j h in
-        record { after = omega (arith, l.after); forward = l.forward; on_card_lem = l.on_card_lem }
+        record { after = omega (arith, l.after); forward = l.forward; on_card = l.on_card }
 
     place : (1 ≤ n) × (n ≤ length (fields_of k)) × (get_or (fields_of k) (n - 1) no_field ≡ f)
     place = let m = numbered k n f (found-there s n form k f q).field in (m.counted, m.within, m.is)
@@ -122,8 +122,8 @@ module _ (s : List ℕ) (n form k : ℕ) (f : Field) (q : sought_of s n form ≡
     other-columns ne = elim (dec_lt (suc j) n) [
       | yes l ↦
           part-before (g.last - (g.first - 1)) (g.first - 1) (f.first - 1) (blanked_in f s) s
-          (omega (arith, before l, there.after, there.forward)) (omega (arith, still_whole, there.forward, there.on_card_lem))
-          (omega (arith, whole, there.forward, there.on_card_lem)) same_front
+          (omega (arith, before l, there.after, there.forward)) (omega (arith, still_whole, there.forward, there.on_card))
+          (omega (arith, whole, there.forward, there.on_card)) same_front
       | no l ↦
           part-behind (g.last - (g.first - 1)) (g.first - 1) f.last (blanked_in f s) s
           (omega (arith, after (omega arith))) same_behind

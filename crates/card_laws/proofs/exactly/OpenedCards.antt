@@ -277,10 +277,10 @@ module _ (t s : List ℕ) (whole : length s ≡ 80) (k : ℕ) (is : code_of t �
           from_leftmost (offence_at k form card) n d
           (record {
             from = l.from;
-            on_card_lem = l.on_card_lem;
-            number = opened_offence form d l.on_card_lem ∙ l.number;
+            on_card = l.on_card;
+            number = opened_offence form d l.on_card ∙ l.number;
             some = l.some;
-            none_before = λ c a b. opened_offence form c (omega (arith, l.on_card_lem)) ∙ l.none_before c a b;
+            none_before = λ c a b. opened_offence form c (omega (arith, l.on_card)) ∙ l.none_before c a b;
           })
           ∙ sym q
 

@@ -39,15 +39,15 @@ module _ (offence : ℕ → ℕ) where
   pub from_leftmost : (n d : ℕ) → Leftmost offence n d → verdict_from offence 6 ≡ Offence n d
   from_leftmost n d l =
       let q : 6 + (d - 6) ≡ d = omega (arith, l.from) in
-      skips offence (d - 6) 6 (omega (arith, l.from, l.on_card_lem)) (λ j a b. l.none_before j a (omega (arith, l.from)))
+      skips offence (d - 6) 6 (omega (arith, l.from, l.on_card)) (λ j a b. l.none_before j a (omega (arith, l.from)))
       ∙ ap (verdict_from offence) q
-      ∙ decides offence d l.on_card_lem (λ z. l.some (sym l.number ∙ z))
+      ∙ decides offence d l.on_card (λ z. l.some (sym l.number ∙ z))
       ∙ ap (λ m. Offence m d) l.number
 
   pub to_leftmost : (n d : ℕ) → verdict_from offence 6 ≡ Offence n d → Leftmost offence n d
   to_leftmost n d e =
       let f = first-offence offence 6 n d (omega arith) e in
-      record { from = f.from; on_card_lem = f.on_card_lem; number = f.number; some = f.some; none_before = f.none_before }
+      record { from = f.from; on_card = f.on_card; number = f.number; some = f.some; none_before = f.none_before }
 
   pub from-none : ((c : ℕ) → 6 ≤ c → c ≤ 80 → offence c ≡ 0) → verdict_from offence 6 ≡ Fine
   from-none h = skips offence 75 6 (omega arith) (λ j a b. h j a (omega arith)) ∙ ends offence
@@ -61,9 +61,9 @@ module _ (s : List ℕ) (form : Form) where
   byte_verdict : (d : ℕ) → BadByte s d → verdict_of s form ≡ Offence 4 d
   unfolding first_bad
   byte_verdict d b =
-      let q : first_bad s ≡ b.place = first_unique (bad_at s) (length s) b.place (omega (arith, b.whole, b.on_card_lem))
+      let q : first_bad s ≡ b.place = first_unique (bad_at s) (length s) b.place (omega (arith, b.whole, b.on_card))
       b.bad b.none_before in
-      verdict_bad s form b.whole b.place (sym q) b.on_card_lem ∙ ap (Offence 4) (sym b.column)
+      verdict_bad s form b.whole b.place (sym q) b.on_card ∙ ap (Offence 4) (sym b.column)
 
   first-bad : length s ≡ 80 → printable s ≡ false → BadByte s (first_bad s + 1)
   unfolding first_bad
@@ -73,7 +73,7 @@ module _ (s : List ℕ) (form : Form) where
         whole = whole;
         place = first_bad s;
         column = refl;
-        on_card_lem = l;
+        on_card = l;
         bad = first_passes (bad_at s) (length s) (omega arith);
         none_before = λ i b. first_below (bad_at s) (length s) i b;
       }

@@ -21,7 +21,7 @@ use Rattle.card_laws.proofs.rewriting.Agreed.{value_rewritten, text_rewritten}
 -- the one card that putting a value into either leaves
 pub record OneCard (s r : List ℕ) (n form : ℕ) (v : Value) : Type 0 where
   pub card : List ℕ
-  pub from_one_lem : putting_of s n form v ≡ placed card
+  pub from_one : putting_of s n form v ≡ placed card
   pub from-other : putting_of r n form v ≡ placed card
 
 module _ (s r : List ℕ) (n form k : ℕ) (f : Field) (q : sought_of s n form ≡ sought.Is k f) (o : Outside f s r) where
@@ -32,7 +32,7 @@ module _ (s r : List ℕ) (n form k : ℕ) (f : Field) (q : sought_of s n form �
       let a = value_rewritten s n form v e x in
       let b = was_read r n form v d in
       let same = value_anew s r n form k b.code f b.field q b.found o v in
-      record { card = a.card; from_one_lem = a.put; from-other = same ∙ a.put }
+      record { card = a.card; from_one = a.put; from-other = same ∙ a.put }
 
   -- a text has one spelling only: cards that hand back the same one are the same
   pub one_text : (c d : Columns) {a b : Bool} → field_reading s n form ≡ read.Is (Text c) a → field_reading r n form ≡ read.Is (Text d) b

@@ -17,14 +17,14 @@ pub record BadByte (s : List ℕ) (d : ℕ) : Type 0 where
   pub whole : length s ≡ 80
   pub place : ℕ
   pub column : d ≡ place + 1
-  pub on_card_lem : place < 80
+  pub on_card : place < 80
   pub bad : bad_at s place ≡ true
   pub none_before : (i : ℕ) → i < place → bad_at s i ≡ false
 
 -- column d, from 6 to 80, has offence n, and no column from 6 on has one before it
 pub record Leftmost (offence : ℕ → ℕ) (n d : ℕ) : Type 0 where
   pub from : 6 ≤ d
-  pub on_card_lem : d ≤ 80
+  pub on_card : d ≤ 80
   pub number : offence d ≡ n
   pub some : n ≡ 0 → ⊥
   pub none_before : (c : ℕ) → 6 ≤ c → c < d → offence c ≡ 0

@@ -271,7 +271,7 @@ module _ (k i r : ℕ) (some : i ≡ 0 → ⊥) (is : r ≡ row_of k i) where
     pub row_lies : (1 ≤ (unpack r).first) × ((unpack r).first ≤ (unpack r).last) × ((unpack r).last ≤ 80)
     row_lies =
         let l = found_lies k (i - 1 + 1) (unpack r) (row-there k (i - 1) r same z) in
-        (omega (arith, l.after), l.forward, l.on_card_lem)
+        (omega (arith, l.after), l.forward, l.on_card)
 
 -- a column that is in no slot carries no tie, and its row is the column alone
 not_in : (x : ℕ) (l : List ℕ) (n : ℕ) → length l ≤ n → ((j : ℕ) → j < n → get_or l j 0 ≡ x → ⊥) → Memᴰ x l → ⊥

@@ -11,7 +11,7 @@ returns-in_default c = sym (second_none _ _ (sym c.field_of-found.ensures ∙ c.
 
 pub second_at-requires : goal.second_at-requires
 second_at-requires c =
-    let l = found_lies _ _ _ (sym c.field_of-found.ensures ∙ c.in-Is.is) in omega (arith, c.requires, l.after, l.forward, l.on_card_lem)
+    let l = found_lies _ _ _ (sym c.field_of-found.ensures ∙ c.in-Is.is) in omega (arith, c.requires, l.after, l.forward, l.on_card)
 
 pub returns : goal.returns
 returns c = c.second_at.ensures ∙ sym (second_is _ _ _ (sym c.field_of-found.ensures ∙ c.in-Is.is))
