@@ -1,7 +1,5 @@
 -- `media_diskette::count_lines` meets its contract: the answer for what is left of the file stays the same.
-use Prim.Native.Nat.{◌+◌, ◌<◌}
 use mathlib.Core.Path.{sym, ap, ◌∙◌}
-use lib.ListN.{length}
 use native.Mathlib.Omega.{arith}
 use borrow.Author.Rules.{rules}
 use Rattle.media_diskette.specs.declared.Converted.TheVariants.{Refused}
@@ -24,29 +22,19 @@ loop-i-preserved-then-number-eq0 c =
 
 pub overflow_add-i-then-b-byte_at : goal.overflow_add-i-then-b-byte_at
 overflow_add-i-then-b-byte_at c =
-    let two : c.loop-i.i + 1 < length c.args.file.now =
     let l = c.loop-i in
-    end_within c.args.file.now l.lines l.k l.i c.loop-i-test.true c.byte_at.result c.byte_at.ensures c.if-b-byte_at.true
-    in
-    omega (arith, two)
+    omega (arith, end_within c.args.file.now l.lines l.k l.i c.loop-i-test.true c.byte_at.result c.byte_at.ensures c.if-b-byte_at.true)
 
 pub loop-i-smaller : goal.loop-i-smaller
 loop-i-smaller c =
-    let two : c.loop-i.i + 1 < length c.args.file.now =
     let l = c.loop-i in
-    end_within c.args.file.now l.lines l.k l.i c.loop-i-test.true c.byte_at.result c.byte_at.ensures c.if-b-byte_at.true
-    in
-    omega (arith, two)
+    omega (arith, end_within c.args.file.now l.lines l.k l.i c.loop-i-test.true c.byte_at.result c.byte_at.ensures c.if-b-byte_at.true)
 
 pub loop-i-preserved : goal.loop-i-preserved
 loop-i-preserved c =
-    let two : c.loop-i.i + 1 < length c.args.file.now =
-    let l = c.loop-i in
-    end_within c.args.file.now l.lines l.k l.i c.loop-i-test.true c.byte_at.result c.byte_at.ensures c.if-b-byte_at.true
-    in
     let l = c.loop-i in
     let f = c.args.file.now in
-    let t = two in (
+    let two = end_within f l.lines l.k l.i c.loop-i-test.true c.byte_at.result c.byte_at.ensures c.if-b-byte_at.true in (
       omega arith,
       omega arith,
       omega arith,

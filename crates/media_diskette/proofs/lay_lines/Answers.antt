@@ -1,9 +1,9 @@
 -- `media_diskette::lay_lines` meets its contract: what was laid, and what is left to lay.
-use Prim.Native.Nat.{◌+◌, ◌*◌, ◌/◌, ◌≤◌}
+use Prim.Native.Nat.{◌/◌}
 use mathlib.Core.Path.{sym, ap, ◌∙◌}
 use mathlib.Core.List.{List}
 use Prim.Native.Nat.{ℕ}
-use lib.ListN.{length, take, drop}
+use lib.ListN.{length}
 use native.Mathlib.Omega.{arith}
 use borrow.Author.Rules.{rules}
 use Rattle.media_diskette.specs.Lines.{line_of}
@@ -18,87 +18,50 @@ loop-place-init c =
     (search rules, search rules, omega (arith, d.0, c.requires), d.1)
 
 pub overflow_mul-from : goal.overflow_mul-from
-overflow_mul-from c =
-    let within : c.loop-place.place * 80 + 80 ≤ length c.args.cards.now =
-    card_ends c.args.cards.now c.loop-place.place c.loop-place-test.true
-    in
-    omega (arith, within)
+overflow_mul-from c = omega (arith, card_ends c.args.cards.now c.loop-place.place c.loop-place-test.true)
 
 pub slice_bounds-lay_line-count : goal.slice_bounds-lay_line-count
 slice_bounds-lay_line-count c =
-    let room : c.loop-place.at + length (line_of (take 80 (drop (c.loop-place.place * 80) c.args.cards.now))) ≤ length c.loop-place.out =
     let l = c.loop-place in
     let h = c.args.cards.now in
     omega (arith, l.invariant.2, more_length h (length h / 80) l.place c.loop-place-test.true)
-    in
-    omega (arith, room)
 
 pub slice_bounds-lay_line-start : goal.slice_bounds-lay_line-start
 slice_bounds-lay_line-start c =
-    let room : c.loop-place.at + length (line_of (take 80 (drop (c.loop-place.place * 80) c.args.cards.now))) ≤ length c.loop-place.out =
     let l = c.loop-place in
     let h = c.args.cards.now in
     omega (arith, l.invariant.2, more_length h (length h / 80) l.place c.loop-place-test.true)
-    in
-    omega (arith, room)
 
 pub slice_bounds-lay_line-end : goal.slice_bounds-lay_line-end
 slice_bounds-lay_line-end c =
-    let room : c.loop-place.at + length (line_of (take 80 (drop (c.loop-place.place * 80) c.args.cards.now))) ≤ length c.loop-place.out =
     let l = c.loop-place in
     let h = c.args.cards.now in
     omega (arith, l.invariant.2, more_length h (length h / 80) l.place c.loop-place-test.true)
-    in
-    omega (arith, room)
 
 pub overflow_add-from : goal.overflow_add-from
-overflow_add-from c =
-    let within : c.loop-place.place * 80 + 80 ≤ length c.args.cards.now =
-    card_ends c.args.cards.now c.loop-place.place c.loop-place-test.true
-    in
-    omega (arith, within)
+overflow_add-from c = omega (arith, card_ends c.args.cards.now c.loop-place.place c.loop-place-test.true)
 
 pub slice_bounds-lay_line-count-in-loop-place : goal.slice_bounds-lay_line-count-in-loop-place
-slice_bounds-lay_line-count-in-loop-place c =
-    let within : c.loop-place.place * 80 + 80 ≤ length c.args.cards.now =
-    card_ends c.args.cards.now c.loop-place.place c.loop-place-test.true
-    in
-    omega (arith, within)
+slice_bounds-lay_line-count-in-loop-place c = omega (arith, card_ends c.args.cards.now c.loop-place.place c.loop-place-test.true)
 
 pub slice_bounds-lay_line-start-in-loop-place : goal.slice_bounds-lay_line-start-in-loop-place
-slice_bounds-lay_line-start-in-loop-place c =
-    let within : c.loop-place.place * 80 + 80 ≤ length c.args.cards.now =
-    card_ends c.args.cards.now c.loop-place.place c.loop-place-test.true
-    in
-    omega (arith, within)
+slice_bounds-lay_line-start-in-loop-place c = omega (arith, card_ends c.args.cards.now c.loop-place.place c.loop-place-test.true)
 
 pub slice_bounds-lay_line-end-in-loop-place : goal.slice_bounds-lay_line-end-in-loop-place
-slice_bounds-lay_line-end-in-loop-place c =
-    let within : c.loop-place.place * 80 + 80 ≤ length c.args.cards.now =
-    card_ends c.args.cards.now c.loop-place.place c.loop-place-test.true
-    in
-    omega (arith, within)
+slice_bounds-lay_line-end-in-loop-place c = omega (arith, card_ends c.args.cards.now c.loop-place.place c.loop-place-test.true)
 
 pub lay_line-at-requires : goal.lay_line-at-requires
 lay_line-at-requires c =
-    let room : c.loop-place.at + length (line_of (take 80 (drop (c.loop-place.place * 80) c.args.cards.now))) ≤ length c.loop-place.out =
     let l = c.loop-place in
     let h = c.args.cards.now in
-    omega (arith, l.invariant.2, more_length h (length h / 80) l.place c.loop-place-test.true)
-    in
-    let l = c.loop-place in
-    part_room c.args.cards.now l.out l.place l.at room
+    part_room h l.out l.place l.at (omega (arith, l.invariant.2, more_length h (length h / 80) l.place c.loop-place-test.true))
 
 pub overflow_add-at : goal.overflow_add-at
 overflow_add-at c =
-    let room : c.loop-place.at + length (line_of (take 80 (drop (c.loop-place.place * 80) c.args.cards.now))) ≤ length c.loop-place.out =
     let l = c.loop-place in
     let h = c.args.cards.now in
-    omega (arith, l.invariant.2, more_length h (length h / 80) l.place c.loop-place-test.true)
-    in
-    let l = c.loop-place in
-    let h = c.args.cards.now in
-    omega (arith, c.lay_line-at.ensures.size, ap (λ (x : List ℕ). length (line_of x)) (card_is h l.place), room, l.invariant.1)
+    let fits = more_length h (length h / 80) l.place c.loop-place-test.true in
+    omega (arith, c.lay_line-at.ensures.size, ap (λ (x : List ℕ). length (line_of x)) (card_is h l.place), fits, l.invariant.2, l.invariant.1)
 
 pub loop-place-preserved : goal.loop-place-preserved
 loop-place-preserved c =

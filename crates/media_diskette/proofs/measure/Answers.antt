@@ -1,5 +1,5 @@
 -- `media_diskette::measure` meets its contract: the answer for the cards that are left stays the same.
-use Prim.Native.Nat.{◌+◌, ◌*◌, ◌/◌, ◌≤◌}
+use Prim.Native.Nat.{◌/◌}
 use mathlib.Core.Path.{sym, ap, ◌∙◌}
 use lib.ListN.{length}
 use native.Mathlib.Omega.{arith}
@@ -12,39 +12,19 @@ pub loop-place-init : goal.loop-place-init
 loop-place-init c = (search rules, search rules, measured_begins _ _)
 
 pub overflow_mul-from : goal.overflow_mul-from
-overflow_mul-from c =
-    let within : c.loop-place.place * 80 + 80 ≤ length c.args.cards.now =
-    card_ends c.args.cards.now c.loop-place.place c.loop-place-test.true
-    in
-    omega (arith, within)
+overflow_mul-from c = omega (arith, card_ends c.args.cards.now c.loop-place.place c.loop-place-test.true)
 
 pub overflow_add-card : goal.overflow_add-card
-overflow_add-card c =
-    let within : c.loop-place.place * 80 + 80 ≤ length c.args.cards.now =
-    card_ends c.args.cards.now c.loop-place.place c.loop-place-test.true
-    in
-    omega (arith, within)
+overflow_add-card c = omega (arith, card_ends c.args.cards.now c.loop-place.place c.loop-place-test.true)
 
 pub slice_bounds-card-count : goal.slice_bounds-card-count
-slice_bounds-card-count c =
-    let within : c.loop-place.place * 80 + 80 ≤ length c.args.cards.now =
-    card_ends c.args.cards.now c.loop-place.place c.loop-place-test.true
-    in
-    omega (arith, within)
+slice_bounds-card-count c = omega (arith, card_ends c.args.cards.now c.loop-place.place c.loop-place-test.true)
 
 pub slice_bounds-card-start : goal.slice_bounds-card-start
-slice_bounds-card-start c =
-    let within : c.loop-place.place * 80 + 80 ≤ length c.args.cards.now =
-    card_ends c.args.cards.now c.loop-place.place c.loop-place-test.true
-    in
-    omega (arith, within)
+slice_bounds-card-start c = omega (arith, card_ends c.args.cards.now c.loop-place.place c.loop-place-test.true)
 
 pub slice_bounds-card-end : goal.slice_bounds-card-end
-slice_bounds-card-end c =
-    let within : c.loop-place.place * 80 + 80 ≤ length c.args.cards.now =
-    card_ends c.args.cards.now c.loop-place.place c.loop-place-test.true
-    in
-    omega (arith, within)
+slice_bounds-card-end c = omega (arith, card_ends c.args.cards.now c.loop-place.place c.loop-place-test.true)
 
 pub overflow_add-place : goal.overflow_add-place
 overflow_add-place c = omega (arith, c.requires)

@@ -1,5 +1,4 @@
 -- `volume_form::entry_code` meets its contract.
--- src/lib.rt:52:23
 use mathlib.Core.Path.{ap, sym}
 use Rattle.volume_form.specs.Rows.{row_of}
 use Rattle.volume_form.proofs.entry_code.Goals as goal

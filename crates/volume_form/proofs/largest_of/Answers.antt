@@ -1,5 +1,4 @@
 -- `volume_form::largest_of` meets its contract.
--- src/lib.rt:42:22
 use mathlib.Core.Path.{ap, sym}
 use Rattle.volume_form.specs.Rows.{row_of}
 use Rattle.volume_form.proofs.largest_of.Goals as goal

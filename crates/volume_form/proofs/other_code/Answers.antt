@@ -1,5 +1,4 @@
 -- `volume_form::other_code` meets its contract.
--- src/lib.rt:62:23
 use mathlib.Core.Path.{ap, sym}
 use Rattle.volume_form.specs.Rows.{row_of}
 use Rattle.volume_form.proofs.other_code.Goals as goal

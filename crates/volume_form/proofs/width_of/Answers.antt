@@ -1,5 +1,4 @@
 -- `volume_form::width_of` meets its contract.
--- src/lib.rt:21:22
 use mathlib.Core.Path.{ap, sym}
 use native.Mathlib.Omega.{arith}
 use Rattle.volume_form.specs.Rows.{row_of}

@@ -1,5 +1,4 @@
 -- `volume_check::covering::count_of` meets its contract.
--- src/lib.rt:77:9
 use Rattle.volume_check.proofs.covering.Walks.{step-none, step_long, step_same, step_other}
 use Rattle.volume_check.proofs.covering.count_of.Goals as goal
 

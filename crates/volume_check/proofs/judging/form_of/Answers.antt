@@ -1,5 +1,4 @@
 -- `volume_check::judging::form_of` meets its contract.
--- src/judging.rt:172:9
 use Rattle.volume_check.proofs.judging.Parts.{form-none, form_short, form_wide, form_old}
 use Rattle.volume_check.proofs.judging.form_of.Goals as goal
 

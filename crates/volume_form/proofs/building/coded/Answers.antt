@@ -1,5 +1,4 @@
 -- `volume_form::building::coded` meets its contract.
--- src/lib.rt:60:17
 use Rattle.volume_form.proofs.building.Built.{laid-first}
 use mathlib.Core.Path.{◌∙◌}
 use Rattle.volume_form.proofs.building.coded.Goals as goal

@@ -1,5 +1,4 @@
 -- `volume_form::building::entry_card` meets its contract.
--- src/lib.rt:91:9
 use Rattle.volume_form.specs.Marked.{padded}
 use Rattle.volume_form.proofs.building.Built.{size-columns, entry_built}
 use Rattle.volume_form.specs.Rows.{row_of}

@@ -1,5 +1,4 @@
 -- `volume_form::building::lay_number` meets its contract.
--- src/lib.rt:48:9
 use Rattle.volume_form.proofs.building.Built.{number_laid'}
 use native.Mathlib.Omega.{arith}
 use Rattle.volume_form.proofs.building.lay_number.Goals as goal

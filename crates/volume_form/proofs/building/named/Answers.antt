@@ -1,5 +1,4 @@
 -- `volume_form::building::named` meets its contract.
--- src/lib.rt:70:17
 use Rattle.volume_form.specs.Marked.{name_of, sequence_of}
 use Rattle.volume_form.specs.Moved.{laid_at}
 use mathlib.Core.Path.{ap, ◌∙◌}

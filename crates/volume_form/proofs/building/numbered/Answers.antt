@@ -1,5 +1,4 @@
 -- `volume_form::building::numbered` meets its contract.
--- src/lib.rt:81:16
 use Prim.Native.Nat.{◌+◌}
 use Rattle.volume_form.specs.Spelled.{spelled}
 use Rattle.volume_form.specs.Moved.{laid_at}

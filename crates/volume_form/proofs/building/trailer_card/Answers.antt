@@ -1,5 +1,4 @@
 -- `volume_form::building::trailer_card` meets its contract.
--- src/lib.rt:101:9
 use Rattle.volume_form.proofs.building.Built.{size-columns, trailer_built}
 use Rattle.volume_form.specs.Rows.{row_of}
 use Rattle.volume_form.specs.Marked.{padded}

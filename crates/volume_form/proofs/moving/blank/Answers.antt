@@ -1,5 +1,4 @@
 -- `volume_form::moving::blank` meets its contract.
--- src/lib.rt:49:26
 use Rattle.volume_form.proofs.moving.Moves.{put_filled}
 use native.Mathlib.Omega.{arith}
 use Rattle.volume_form.proofs.moving.blank.Goals as goal

@@ -1,5 +1,4 @@
 -- `volume_form::moving::lay` meets its contract.
--- src/moving.rt:38:22
 use Rattle.volume_form.proofs.moving.Moves.{put_copied}
 use Rattle.volume_form.proofs.moving.lay.Goals as goal
 

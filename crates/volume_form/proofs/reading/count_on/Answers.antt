@@ -1,5 +1,4 @@
 -- `volume_form::reading::count_on` meets its contract.
--- src/reading.rt:52:26
 use Rattle.volume_form.proofs.reading.Walks.{count-part}
 use Rattle.volume_form.specs.Rows.{row_of}
 use Rattle.volume_form.proofs.reading.count_on.Goals as goal

@@ -1,5 +1,4 @@
 -- `volume_form::reading::first_on` meets its contract.
--- src/reading.rt:69:5
 use Rattle.volume_form.specs.Marked.{first_on}
 use Rattle.volume_form.proofs.reading.first_on.Goals as goal
 

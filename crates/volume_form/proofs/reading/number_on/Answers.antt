@@ -1,5 +1,4 @@
 -- `volume_form::reading::number_on` meets its contract.
--- src/reading.rt:43:21
 use Rattle.volume_form.proofs.reading.Walks.{number-part}
 use Rattle.volume_form.proofs.reading.number_on.Goals as goal
 

@@ -1,5 +1,4 @@
 -- `volume_form::reading::start_on` meets its contract.
--- src/reading.rt:61:5
 use Rattle.volume_form.specs.Marked.{start_on}
 use Rattle.volume_form.proofs.reading.start_on.Goals as goal
 
