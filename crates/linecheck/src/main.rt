@@ -1,4 +1,6 @@
 // The crew's program: reads a header from standard input, and writes what the check says of it.
+#![tactic(auto)]
+
 use crew_answer::lines;
 use crew_io::input::Input;
 use crew_io::{failure, input};
