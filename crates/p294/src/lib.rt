@@ -1,5 +1,8 @@
 // The doors for programs in other languages: each takes numbers and bytes, and answers in numbers. include/p294.h says
 // what each number means; `answers` defines it.
+
+#![tactic(auto)]
+
 pub mod answers;
 pub mod offered;
 

@@ -1,0 +1,13 @@
+-- `p294::answers::of_decimal` meets its contract.
+-- src/lib.rt:97:17
+use mathlib.Core.Path.{refl}
+use Rattle.p294.proofs.answers.Steps.{back, alike}
+use Rattle.p294.specs.answers.Replies.{value_reply}
+use borrow.Author.Rules.{rules}
+use Rattle.p294.proofs.answers.of_decimal.Goals as goal
+
+pub returns : goal.returns
+unfolding value_reply
+returns c =
+    alike refl (back _ _ (record { sfits = c.struct_told-1.given.0.1 }) refl)
+    (back _ _ (search rules) c.plain_of.ensures) (back _ _ (search rules) c.mark_of.ensures)

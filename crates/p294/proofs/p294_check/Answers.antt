@@ -1,0 +1,17 @@
+-- `p294::p294_check` meets its contract.
+-- src/lib.rt:112:34
+use mathlib.Core.Path.{ap, ◌∙◌}
+use Rattle.p294.specs.answers.Replies.{ties_reply}
+use Rattle.p294.proofs.Giving.{answered}
+use borrow.Author.Rules.{rules}
+use Rattle.p294.proofs.p294_check.Goals as goal
+
+pub returns : goal.returns
+returns c =
+    let said = answered c.args.numbers.now _ c.of_ties-reply.result _ _ (search rules)
+    c.give.ensures.said c.give.ensures.numbers (c.of_ties-reply.ensures ∙ ap ties_reply c.check.ensures.answer) in
+    record {
+      said = said.0;
+      numbers = said.1;
+      list = c.check.ensures.list;
+    }

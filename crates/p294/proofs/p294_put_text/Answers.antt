@@ -1,0 +1,17 @@
+-- `p294::p294_put_text` meets its contract.
+-- src/lib.rt:98:37
+use mathlib.Core.Path.{ap, ◌∙◌}
+use Rattle.p294.specs.answers.Replies.{entered_reply}
+use Rattle.p294.proofs.Giving.{answered}
+use borrow.Author.Rules.{rules}
+use Rattle.p294.proofs.p294_put_text.Goals as goal
+
+pub returns : goal.returns
+returns c =
+    let said = answered c.args.numbers.now _ c.of_entered-reply.result _ _ (search rules)
+    c.give.ensures.said c.give.ensures.numbers (c.of_entered-reply.ensures ∙ ap entered_reply c.put_text.ensures.answer) in
+    record {
+      said = said.0;
+      numbers = said.1;
+      card = c.put_text.ensures.card;
+    }
