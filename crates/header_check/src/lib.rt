@@ -4,7 +4,7 @@
 pub mod forms;
 
 ghost use Rattle.std.specs.Prelude.{◌≡◌, cond, ◌-◌, ◌≤◌, length, get_or};
-ghost use Rattle.card_screen.specs.Roles.{sure as isSureOf};
+ghost use Rattle.card_screen.specs.Roles.{sure as is_sure_of};
 ghost use Rattle.header_check.specs.forms.Cards.{cards_in, layout_of};
 ghost use Rattle.header_check.specs.packed.Notes.{notes_to};
 ghost use Rattle.header_check.specs.packed.Noted.{Noted, noted_for};
@@ -79,7 +79,7 @@ fn judge_misplaced(code: Code) -> Verdict
 
 // A card in its place or not, by its layout: one in its place that the screen is sure of needs no judging.
 fn judge_placed(card: &[u8], layout: usize, sure: bool, form: Form, placed: bool) -> Verdict
-    requires { (length card.now ≡ 80) × (layout ≡ layout_of card.now) × (sure ≡ isSureOf layout card.now) }
+    requires { (length card.now ≡ 80) × (layout ≡ layout_of card.now) × (sure ≡ is_sure_of layout card.now) }
     ensures { result ≡ placed_verdict card.now form placed }
 {
     let bad = printable::first_bad(card);

@@ -23,9 +23,9 @@ ghost use Rattle.volume_form.specs.Rows.{row_of};
 ghost use Rattle.volume_rules.specs.Sound.{headers_of};
 ghost use Rattle.volume_rules.specs.Judged.{form_in};
 ghost use Rattle.volume_check.specs.Answers.{lines_of, found_of};
-ghost use Rattle.volume_edit.specs.Written.{empty_answer, append_answer, left_by as volumeLeft, convert_answer, compact_answer, compacted_by};
+ghost use Rattle.volume_edit.specs.Written.{empty_answer, append_answer, left_by as volume_left, convert_answer, compact_answer, compacted_by};
 ghost use Rattle.survey_datums.specs.Answer.{routes_of};
-ghost use Rattle.survey_datums.specs.Listing.{listed_of, list_for as routesIn};
+ghost use Rattle.survey_datums.specs.Listing.{listed_of, list_for as routes_in};
 ghost use Rattle.base_value.specs.Sums.{decimal};
 ghost use Rattle.survey_compass.specs.Headings.{heading_of};
 ghost use Rattle.p294.specs.offered.Offers.{offered_of, key_of, key_text_of};
@@ -245,7 +245,7 @@ pub extern "C" fn p294_to_ebcdic(text: &[u8], out: &mut [u8], numbers: &mut [i64
 pub extern "C" fn p294_volume_empty(buffer: &mut [u8], numbers: &mut [i64]) -> i64
     ensures said { result ≡ (volume_reply (empty_answer buffer.old)).said }
     ensures numbers { numbers.new ≡ given numbers.old (volume_reply (empty_answer buffer.old)) }
-    ensures buffer { buffer.new ≡ volumeLeft (row_of Old) (empty_answer buffer.old) [] buffer.old }
+    ensures buffer { buffer.new ≡ volume_left (row_of Old) (empty_answer buffer.old) [] buffer.old }
 {
     let reply = answers::of_volume(volume_edit::lay_empty(buffer));
     give(numbers, reply)
@@ -294,7 +294,7 @@ pub extern "C" fn p294_volume_append(
     ensures numbers { numbers.new
         ≡ given numbers.old (volume_reply (append_answer (row_of (form_in cards buffer.old)) cards buffer.old header.now)) }
     ensures buffer { buffer.new
-        ≡ volumeLeft (row_of (form_in cards buffer.old)) (append_answer (row_of (form_in cards buffer.old)) cards buffer.old header.now)
+        ≡ volume_left (row_of (form_in cards buffer.old)) (append_answer (row_of (form_in cards buffer.old)) cards buffer.old header.now)
         (headers_of (row_of (form_in cards buffer.old)) cards (take (80 * cards) buffer.old) ++ (header.now ∷ [])) buffer.old }
 {
     let reply = answers::of_volume(volume_edit::append(buffer, cards, header));
@@ -307,7 +307,7 @@ pub extern "C" fn p294_routes(header: &[u8], list: &mut [u32], numbers: &mut [i6
     ensures said { result ≡ (routes_reply (listed_of (routes_of header.now))).said }
     ensures numbers { numbers.new
         ≡ given numbers.old (routes_reply (listed_of (routes_of header.now))) }
-    ensures list { list.new ≡ routesIn (routes_of header.now) list.old }
+    ensures list { list.new ≡ routes_in (routes_of header.now) list.old }
 {
     let reply = answers::of_routes(survey_datums::listing::list_routes(header, list));
     give(numbers, reply)
@@ -343,7 +343,7 @@ pub extern "C" fn p294_volume_widen(buffer: &mut [u8], cards: usize, numbers: &m
     ensures said { result ≡ (volume_reply (convert_answer (row_of (form_in cards buffer.old)) (row_of Wide) cards buffer.old)).said }
     ensures numbers { numbers.new ≡ given numbers.old (volume_reply (convert_answer (row_of (form_in cards buffer.old)) (row_of Wide) cards buffer.old)) }
     ensures buffer { buffer.new
-        ≡ volumeLeft (row_of Wide) (convert_answer (row_of (form_in cards buffer.old)) (row_of Wide) cards buffer.old)
+        ≡ volume_left (row_of Wide) (convert_answer (row_of (form_in cards buffer.old)) (row_of Wide) cards buffer.old)
         (headers_of (row_of (form_in cards buffer.old)) cards (take (80 * cards) buffer.old)) buffer.old }
 {
     let reply = answers::of_volume(volume_edit::convert::widen(buffer, cards));
@@ -356,7 +356,7 @@ pub extern "C" fn p294_volume_narrow(buffer: &mut [u8], cards: usize, numbers: &
     ensures said { result ≡ (volume_reply (convert_answer (row_of (form_in cards buffer.old)) (row_of Old) cards buffer.old)).said }
     ensures numbers { numbers.new ≡ given numbers.old (volume_reply (convert_answer (row_of (form_in cards buffer.old)) (row_of Old) cards buffer.old)) }
     ensures buffer { buffer.new
-        ≡ volumeLeft (row_of Old) (convert_answer (row_of (form_in cards buffer.old)) (row_of Old) cards buffer.old)
+        ≡ volume_left (row_of Old) (convert_answer (row_of (form_in cards buffer.old)) (row_of Old) cards buffer.old)
         (headers_of (row_of (form_in cards buffer.old)) cards (take (80 * cards) buffer.old)) buffer.old }
 {
     let reply = answers::of_volume(volume_edit::convert::narrow(buffer, cards));

@@ -1,7 +1,7 @@
 // The columns of a card where a fault can stand: the last of its code, which can define a datum, and those where its fields begin.
 ghost use Rattle.std.specs.Prelude.{◌≡◌, ◌≤◌, length, get_or};
 ghost use Rattle.format_layout.specs.Layouts.{fields_of};
-ghost use Rattle.card_screen.specs.Roles.{sure as isSureOf};
+ghost use Rattle.card_screen.specs.Roles.{sure as is_sure_of};
 ghost use Rattle.tie_rules.specs.Faults.{misplaced_among};
 ghost use Rattle.tie_rules.specs.packed.Rows.{row_at};
 ghost use Rattle.tie_check.specs.packed.Begins.{begins, walked, any_left};
@@ -58,7 +58,7 @@ fn some_left(card: &[u8], layout: usize) -> bool
 
 // Whether a card has a misplaced number at all: none that the screen is sure of has.
 pub fn any_left(card: &[u8], layout: usize, sure: bool) -> bool
-    requires { (length card.now ≡ 80) × (sure ≡ isSureOf layout card.now) }
+    requires { (length card.now ≡ 80) × (sure ≡ is_sure_of layout card.now) }
     ensures { result ≡ any_left card.now (fields_of layout) }
 {
     if sure {
