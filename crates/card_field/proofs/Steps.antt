@@ -9,8 +9,6 @@ use denote.Enum.Declared.{tag_of}
 use types.Run.{OneOf, miss}
 use Rattle.base_refusal.specs.declared.Refusal.{Refusal}
 use Rattle.base_value.specs.contracts.Value.{the_type as value-type}
-use Rattle.card_field.specs.contracts.judging.Judged.{the_type as judged-type}
-use Rattle.card_field.specs.contracts.seeking.Way.{the_type as way-type}
 use Rattle.value_text.specs.text.Texts.{text_of}
 use Rattle.base_value.specs.declared.Value.{Value}
 use Rattle.base_value.specs.declared.Value.TheVariants as value

@@ -1,5 +1,4 @@
 -- `card_field::holds_text` meets its contract.
--- src/lib.rt:293:20
 use borrow.Enum.Refused.{opened}
 use Rattle.card_field.proofs.Steps.{text-other}
 use Rattle.card_field.specs.Reading.{holds_text}

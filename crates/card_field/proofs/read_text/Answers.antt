@@ -1,5 +1,4 @@
 -- `card_field::read_text` meets its contract.
-use borrow.Enum.Refused.{opened}
 use native.Mathlib.Omega.{arith}
 use mathlib.Core.Path.{sym, ap, ◌∙◌}
 use Rattle.format_layout.specs.packed.Rows.{unpack}

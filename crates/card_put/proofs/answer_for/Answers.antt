@@ -1,5 +1,4 @@
 -- `card_put::answer_for` meets its contract.
--- src/lib.rt:40:26
 use Rattle.card_put.specs.Putting.{answer_of, came_of}
 use mathlib.Core.List.{[]}
 use mathlib.Core.Path.{sym, ap, ◌∙◌}

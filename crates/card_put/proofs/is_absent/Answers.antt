@@ -1,5 +1,4 @@
 -- `card_put::is_absent` meets its contract.
--- src/lib.rt:53:32
 use borrow.Enum.Refused.{opened}
 use Rattle.card_put.proofs.Steps.{present}
 use mathlib.Core.Path.{sym}

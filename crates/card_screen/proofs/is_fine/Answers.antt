@@ -1,7 +1,6 @@
 -- `card_screen::is_fine` meets its contract.
-use Prim.Native.Nat.{◌+◌, ◌-◌}
+use Prim.Native.Nat.{◌+◌}
 use mathlib.Core.Path.{refl, ap, ◌∙◌}
-use mathlib.Core.Bool.{true}
 use native.Mathlib.Omega.{arith}
 use Rattle.card_screen.specs.Machine.{runs}
 use Rattle.card_screen.proofs.Lines.{past_plain}

@@ -1,5 +1,4 @@
 -- `card_screen::run_row` meets its contract.
-use Prim.Native.Nat.{◌-◌}
 use native.Mathlib.Omega.{arith}
 use Rattle.card_screen.proofs.Runs.{run_none, roles_none, run_more, roles_more, run_all}
 use Rattle.card_screen.proofs.run_row.Goals as goal

@@ -1,5 +1,4 @@
 -- `tell_by` meets its contract: what the check answers is spelled.
--- src/lib.rt:19:9
 use native.Mathlib.Omega.{arith}
 use mathlib.Core.Path.{◌∙◌, ap}
 use lib.ListN.{length}

@@ -1,5 +1,4 @@
 -- `p294::give` meets its contract.
--- src/lib.rt:192:9
 use mathlib.Core.Path.{refl}
 use native.Mathlib.Omega.{arith}
 use lib.ListN.{length-set}

@@ -1,5 +1,4 @@
 -- `p294::p294_check` meets its contract.
--- src/lib.rt:112:34
 use mathlib.Core.Path.{ap, ◌∙◌}
 use Rattle.p294.specs.answers.Replies.{ties_reply}
 use Rattle.p294.proofs.Giving.{answered}

@@ -1,5 +1,4 @@
 -- `p294::p294_key` meets its contract.
--- src/lib.rt:133:9
 use mathlib.Core.Path.{ap, ◌∙◌}
 use mir.Syntax.{w64}
 use mir.ValLaws.{to_z-of_z}

@@ -1,5 +1,4 @@
 -- `p294::p294_open` meets its contract.
--- src/lib.rt:54:36
 use mathlib.Core.Path.{ap, ◌∙◌}
 use Rattle.p294.specs.answers.Replies.{opened_reply}
 use Rattle.p294.proofs.Giving.{answered}

@@ -1,5 +1,4 @@
 -- `p294::p294_put` meets its contract.
--- src/lib.rt:77:9
 use mathlib.Core.Path.{ap, ◌∙◌}
 use Rattle.p294.specs.answers.Replies.{entered_reply}
 use Rattle.p294.proofs.Giving.{answered}

@@ -1,5 +1,4 @@
 -- `p294::p294_put_text` meets its contract.
--- src/lib.rt:98:37
 use mathlib.Core.Path.{ap, ◌∙◌}
 use Rattle.p294.specs.answers.Replies.{entered_reply}
 use Rattle.p294.proofs.Giving.{answered}

@@ -1,5 +1,4 @@
 -- `base_digits::signs::below_zero` meets its contract.
--- src/lib.rt:120:1
 use Rattle.base_digits.proofs.signs.Signs.{below_is}
 use Rattle.base_digits.proofs.signs.below_zero.Goals as goal
 

@@ -1,5 +1,4 @@
 -- `base_digits::signs::magnitude` meets its contract.
--- src/lib.rt:131:23
 use Rattle.base_digits.proofs.signs.Signs.{below_is, nearer_fits, turned-fits, less_cast, less_one, less_one_fits, plus_cast}
 use mathlib.Core.Path.{sym, ◌∙◌}
 use Rattle.base_digits.proofs.signs.magnitude.Goals as goal

@@ -1,5 +1,4 @@
 -- `base_digits::signs::signed` meets its contract.
--- src/lib.rt:79:9
 use Rattle.base_digits.proofs.signs.Signs.{minus_held, signed_minus, signed_plus}
 use Rattle.base_digits.specs.signs.Signs.{signed_of}
 use mathlib.Core.Path.{ap, ◌∙◌}

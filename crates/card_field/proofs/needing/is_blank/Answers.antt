@@ -1,5 +1,4 @@
 -- `card_field::needing::is_blank` meets its contract.
--- src/lib.rt:124:5
 use Rattle.card_field.specs.needing.Needs.{is_blank}
 use lib.Dec.{eqb}
 use mathlib.Core.Path.{ap}

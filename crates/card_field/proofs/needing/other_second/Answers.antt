@@ -2,7 +2,7 @@
 use Rattle.card_field.proofs.needing.Steps.{other-is, other-over}
 use lib.Dec.{eqb}
 use mathlib.Core.Bool.{◌&&◌, not}
-use Prim.Native.Nat.{◌-◌, ◌+◌}
+use Prim.Native.Nat.{◌+◌}
 use mathlib.Core.Path.{refl, sym, ap, ◌∙◌}
 use native.Mathlib.Omega.{arith}
 use borrow.Author.Rules.{rules}

@@ -1,5 +1,4 @@
 -- `card_field::needing::second_at` meets its contract.
--- src/lib.rt:158:9
 use Rattle.card_field.proofs.needing.Steps.{second-first, second-columns}
 use mathlib.Core.Bool.{not}
 use mathlib.Core.Path.{sym, ap, ◌∙◌}

@@ -1,5 +1,4 @@
 -- `card_field::needing::second_by` meets its contract.
--- src/lib.rt:170:9
 use Rattle.card_field.proofs.needing.Steps.{second_none, second_is}
 use Rattle.format_layout.proofs.Numbers.{found_lies}
 use mathlib.Core.Path.{sym, ◌∙◌}

@@ -1,5 +1,4 @@
 -- `card_field::seeking::seek` meets its contract.
--- src/lib.rt:95:9
 use Rattle.card_field.proofs.seeking.Steps.{sought_none, sought_odd, sought_bad, sought_coded}
 use Rattle.card_field.specs.seeking.Card.{coded, way_for}
 use lib.Seq.{length-take-le}

@@ -1,5 +1,4 @@
 -- `card_put::opening::lay_code` meets its contract.
-use Prim.Native.Nat.{◌-◌}
 use mathlib.Core.Path.{◌≡◌, ◌∙◌, refl, ap}
 use mathlib.Core.List.{◌++◌}
 use lib.ListN.{length, get_or, drop, set, length-set}

@@ -1,5 +1,5 @@
 -- `card_put::opening::lay_label` meets its contract.
-use Prim.Native.Nat.{ℕ, ◌-◌}
+use Prim.Native.Nat.{ℕ}
 use mathlib.Core.Path.{◌∙◌, refl, ap, ap₂}
 use mathlib.Core.List.{List, ◌++◌, append-nil}
 use lib.ListN.{length, set, length-set, drop_of_length-le}

@@ -1,5 +1,4 @@
 -- `push` meets its contract: past the end a store leaves all as it was.
--- src/lib.rt:30:9
 use mathlib.Core.Path.{refl, sym}
 use lib.Seq.{set_out}
 use native.Mathlib.Omega.{arith}

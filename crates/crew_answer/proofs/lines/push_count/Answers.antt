@@ -1,5 +1,4 @@
 -- `push_count` meets its contract: the word, the number, the end of the line.
--- src/lib.rt:124:33
 use native.Mathlib.Omega.{arith}
 use Rattle.crew_answer.specs.lines.Text.{bytes, spaced, newline, count_text}
 use Rattle.crew_answer.proofs.lines.Pushing.{Put, then}

@@ -1,5 +1,4 @@
 -- `push_entry` meets its contract: the numbers of the entry stand one after the other in the list.
--- src/lib.rt:107:16
 use mathlib.Core.Path.{◌∙◌}
 use native.Mathlib.Nat.{add-zero}
 use Rattle.crew_answer.specs.lines.Text.{entry_at}

@@ -1,5 +1,4 @@
 -- `push_line` meets its contract: its numbers, the end of the line.
--- src/lib.rt:93:9
 use native.Mathlib.Omega.{arith}
 use Rattle.crew_answer.specs.lines.Text.{numeral, spaced, newline, entry_text}
 use Rattle.crew_answer.proofs.lines.Pushing.{Put, then}

@@ -1,5 +1,4 @@
 -- `push_number` meets its contract: the digits are filled in beside the buffer and then put.
--- src/lib.rt:60:9
 use Prim.Native.Nat.{◌≤◌, ◌+◌}
 use mathlib.Core.Path.{◌≡◌, sym, ◌∙◌}
 use lib.ListN.{length, replicate}

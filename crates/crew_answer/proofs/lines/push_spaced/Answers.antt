@@ -1,5 +1,4 @@
 -- `push_spaced` meets its contract: a space, then the number.
--- src/lib.rt:73:9
 use mathlib.Core.List.{[], ◌∷◌}
 use native.Mathlib.Omega.{arith}
 use Rattle.crew_answer.specs.lines.Text.{numeral, spaced}

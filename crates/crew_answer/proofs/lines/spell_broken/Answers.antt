@@ -1,5 +1,4 @@
 -- `spell_broken` meets its contract: how much is broken, then the entries.
--- src/lib.rt:156:9
 use mathlib.Core.Path.{◌≡◌, ◌∙◌}
 use native.Mathlib.Omega.{arith}
 use Rattle.crew_answer.specs.lines.Text.{count_text, entries_text, told, broken_text}

@@ -1,5 +1,4 @@
 -- `spell_refused` meets its contract: the word, three numbers, the end of the line.
--- src/lib.rt:135:33
 use native.Mathlib.Omega.{arith}
 use Rattle.crew_answer.specs.lines.Text.{bytes, spaced, newline, refused_text}
 use Rattle.crew_answer.proofs.lines.Pushing.{Put, then, laid_put}

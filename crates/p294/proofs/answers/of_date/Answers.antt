@@ -1,5 +1,4 @@
 -- `p294::answers::of_date` meets its contract.
--- src/lib.rt:68:25
 use mathlib.Core.Path.{refl}
 use Rattle.p294.proofs.answers.Steps.{back, alike}
 use Rattle.p294.specs.answers.Replies.{value_reply}

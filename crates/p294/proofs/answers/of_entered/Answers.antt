@@ -1,5 +1,4 @@
 -- `p294::answers::of_entered` meets its contract.
--- src/lib.rt:155:26
 use mathlib.Core.Path.{sym, ap, ◌∙◌}
 use Rattle.p294.specs.answers.Replies.{entered_reply}
 use Rattle.p294.proofs.answers.of_entered.Goals as goal

@@ -1,5 +1,4 @@
 -- `p294::answers::of_field` meets its contract.
--- src/lib.rt:131:23
 use mathlib.Core.Path.{sym, ap, ◌∙◌}
 use Rattle.p294.specs.answers.Replies.{field_reply}
 use Rattle.p294.proofs.answers.of_field.Goals as goal

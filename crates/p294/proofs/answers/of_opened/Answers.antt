@@ -1,5 +1,4 @@
 -- `p294::answers::of_opened` meets its contract.
--- src/lib.rt:165:25
 use mathlib.Core.Path.{sym, ap, ◌∙◌}
 use Rattle.p294.specs.answers.Replies.{opened_reply}
 use Rattle.p294.proofs.answers.of_opened.Goals as goal

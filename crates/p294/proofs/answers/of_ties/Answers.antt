@@ -1,5 +1,4 @@
 -- `p294::answers::of_ties` meets its contract.
--- src/lib.rt:201:21
 use mathlib.Core.Path.{sym, ap, ◌∙◌}
 use Rattle.p294.specs.answers.Replies.{ties_reply}
 use Rattle.p294.proofs.answers.of_ties.Goals as goal

@@ -1,5 +1,4 @@
 -- `p294::answers::of_value` meets its contract.
--- src/lib.rt:107:26
 use mathlib.Core.Path.{refl, sym, ap, ◌∙◌}
 use Rattle.p294.proofs.answers.Steps.{back, alike}
 use Rattle.p294.specs.answers.Replies.{value_reply}

@@ -1,5 +1,4 @@
 -- `p294::answers::only` meets its contract.
--- src/lib.rt:189:15
 use mathlib.Core.Path.{refl}
 use Rattle.p294.proofs.answers.Steps.{back, alike}
 use Rattle.p294.specs.answers.Replies.{only_reply}

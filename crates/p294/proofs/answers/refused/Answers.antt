@@ -1,5 +1,4 @@
 -- `p294::answers::refused` meets its contract.
--- src/lib.rt:52:15
 use Rattle.p294.proofs.answers.Steps.{back, alike}
 use Rattle.p294.specs.answers.Replies.{refused_reply}
 use borrow.Author.Rules.{rules}

@@ -1,5 +1,4 @@
 -- `p294::offered::key_of` meets its contract.
--- src/lib.rt:67:9
 use mir.Syntax.{w64}
 use mir.ValLaws.{to_z-of_z}
 use Rattle.p294.proofs.offered.Steps.{whole_key_lem, pair_key, other_key}

@@ -1,5 +1,4 @@
 -- `p294::offered::key_text` meets its contract.
--- src/lib.rt:80:9
 use mathlib.Core.Path.{refl}
 use native.Mathlib.Omega.{arith}
 use borrow.Author.Tests.{eq-eqb, ne_eqb}

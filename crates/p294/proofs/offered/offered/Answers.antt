@@ -1,5 +1,4 @@
 -- `p294::offered::offered` meets its contract.
--- src/lib.rt:37:9
 use mathlib.Core.Path.{refl, ap, ◌∙◌}
 use mir.Syntax.{w64}
 use mir.ValLaws.{to_z-of_z}

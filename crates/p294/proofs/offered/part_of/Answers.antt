@@ -1,5 +1,4 @@
 -- `p294::offered::part_of` meets its contract.
--- src/lib.rt:17:16
 use mathlib.Core.Path.{refl}
 use native.Mathlib.Omega.{arith}
 use borrow.Author.Tests.{lt-ltb, le-ltb}

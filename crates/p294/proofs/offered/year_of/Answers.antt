@@ -1,5 +1,4 @@
 -- `p294::offered::year_of` meets its contract.
--- src/lib.rt:26:8
 use mathlib.Core.Path.{sym, ap, ◌∙◌}
 use mir.Syntax.{w64}
 use mir.ValLaws.{to_z-of_z}

@@ -1,5 +1,4 @@
 -- `value_field::spelling::is_text` meets its contract.
--- src/lib.rt:136:23
 use borrow.Enum.Refused.{opened}
 use Rattle.value_field.proofs.spelling.Ways.{not-held, not-text}
 use Rattle.value_field.specs.spelling.Reading.{is_text}

@@ -1,5 +1,4 @@
 -- `value_field::spelling::read` meets its contract.
--- src/lib.rt:119:27
 use Rattle.value_field.specs.spelling.Reading.{whole_reading, reading_of}
 use mathlib.Core.Path.{sym, ap, ◌∙◌}
 use Rattle.value_field.proofs.spelling.read.Goals as goal

@@ -1,5 +1,4 @@
 -- `value_field::spelling::text_in` meets its contract.
--- src/lib.rt:56:9
 use Rattle.value_field.proofs.spelling.Ways.{text_absent, text-held, text_odd}
 use Rattle.value_field.proofs.spelling.text_in.Goals as goal
 

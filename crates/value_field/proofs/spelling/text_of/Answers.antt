@@ -1,5 +1,4 @@
 -- `value_field::spelling::text_of` meets its contract.
--- src/lib.rt:146:16
 use Rattle.value_field.specs.spelling.Reading.{is_text, text_read}
 use Rattle.value_text.specs.text.Texts.{text_of}
 use mathlib.Core.Bool.{cond}

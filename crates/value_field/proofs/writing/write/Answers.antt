@@ -1,5 +1,4 @@
 -- `value_field::writing::write` meets its contract.
--- src/lib.rt:255:41
 use Rattle.value_field.proofs.writing.Ways.{same_entry}
 use Rattle.value_field.specs.writing.Writing.{entry_of}
 use lib.ListN.{length}

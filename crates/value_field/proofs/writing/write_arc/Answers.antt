@@ -1,5 +1,4 @@
 -- `value_field::writing::write_arc` meets its contract.
--- src/lib.rt:231:32
 use borrow.Enum.Refused.{opened}
 use Rattle.value_field.proofs.writing.Ways.{same_entry, no_arc}
 use Rattle.value_field.specs.writing.Writing.{arc_in}

@@ -1,5 +1,4 @@
 -- `value_field::writing::write_day` meets its contract.
--- src/lib.rt:219:32
 use borrow.Enum.Refused.{opened}
 use Rattle.value_field.proofs.writing.Ways.{same_entry, no_day}
 use Rattle.value_field.specs.writing.Writing.{day_in}

@@ -1,5 +1,4 @@
 -- `value_field::writing::write_decimal` meets its contract.
--- src/lib.rt:207:32
 use borrow.Enum.Refused.{opened}
 use Rattle.value_field.proofs.writing.Ways.{same_entry, no_decimal}
 use Rattle.value_field.specs.writing.Writing.{units_in}

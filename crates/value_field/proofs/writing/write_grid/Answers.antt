@@ -1,5 +1,4 @@
 -- `value_field::writing::write_grid` meets its contract.
--- src/lib.rt:243:32
 use borrow.Enum.Refused.{opened}
 use Rattle.value_field.proofs.writing.Ways.{same_entry, no_grid}
 use Rattle.value_field.specs.writing.Writing.{grid_entry_in}

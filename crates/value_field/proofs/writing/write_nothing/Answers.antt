@@ -1,5 +1,4 @@
 -- `value_field::writing::write_nothing` meets its contract.
--- src/lib.rt:178:32
 use borrow.Enum.Refused.{opened}
 use Rattle.value_field.proofs.writing.Ways.{same_entry, no_value}
 use Rattle.value_field.specs.writing.Writing.{no_value_in}

@@ -1,5 +1,4 @@
 -- `value_field::writing::write_text` meets its contract.
--- src/lib.rt:273:44
 use borrow.Enum.Refused.{opened}
 use Rattle.value_field.proofs.writing.Ways.{same_entry, no_text}
 use Rattle.value_field.specs.writing.Writing.{text_entry_of}

@@ -1,5 +1,4 @@
 -- `value_field::writing::write_units` meets its contract.
--- src/lib.rt:166:8
 use Rattle.value_field.proofs.writing.Ways.{room-done, room-none}
 use Rattle.value_number.specs.number_entry.Spelling.{decimal_in}
 use lib.ListN.{length}

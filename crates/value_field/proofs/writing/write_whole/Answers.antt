@@ -1,5 +1,4 @@
 -- `value_field::writing::write_whole` meets its contract.
--- src/lib.rt:189:32
 use borrow.Enum.Refused.{opened}
 use Rattle.value_field.proofs.writing.Ways.{same_entry, no_whole}
 use Rattle.value_field.specs.writing.Writing.{whole_in}

@@ -1,5 +1,4 @@
 -- `value_number::number::counted` meets its contract.
--- src/lib.rt:42:9
 use borrow.Author.Tests.{eq-eqb, ne_eqb}
 use Rattle.value_number.proofs.number.counted.Goals as goal
 

@@ -1,5 +1,4 @@
 -- `value_number::number::figures_in` meets its contract.
--- src/lib.rt:51:9
 use Rattle.value_number.proofs.number.Parsing.{figures_whole, figures_no_point_in_whole, figures_other-byte, figures_odd_places, figures_places}
 use Rattle.base_digits.proofs.digits.Parts.{rest_part}
 use mathlib.Core.Path.{◌∙◌}

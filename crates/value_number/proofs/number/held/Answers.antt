@@ -1,5 +1,4 @@
 -- `value_number::number::held` meets its contract.
--- src/lib.rt:88:25
 use Rattle.value_number.proofs.number.Parsing.{held-not, held_units, held_large}
 use mir.ValLaws.{to_z-of_z}
 use mir.Syntax.{w64}

@@ -1,5 +1,4 @@
 -- `value_number::number_entry::point_columns` meets its contract.
--- src/lib.rt:204:9
 use Rattle.value_number.proofs.number_entry.Writing.{point_some}
 use mathlib.Core.Path.{sym}
 use native.Mathlib.Omega.{arith}

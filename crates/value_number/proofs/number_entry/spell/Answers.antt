@@ -1,5 +1,4 @@
 -- `value_number::number_entry::spell` meets its contract.
--- src/lib.rt:215:13
 use Rattle.value_number.proofs.number_entry.Writing.{adjusted_none, adjusted_some, adjusted_written}
 use Rattle.base_digits.proofs.digits.Answers.{fitted, declined}
 use lib.Seq.{length-take-le}

@@ -1,5 +1,4 @@
 -- `value_number::number_entry::write_decimal` meets its contract.
--- src/lib.rt:246:9
 use Rattle.value_number.proofs.number_entry.Writing.{decimal_large, decimal-is, units_none}
 use Rattle.base_digits.specs.signs.Signs.{is_minus}
 use Rattle.base_digits.proofs.digits.Answers.{declined}

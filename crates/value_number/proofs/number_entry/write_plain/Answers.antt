@@ -1,5 +1,4 @@
 -- `value_number::number_entry::write_plain` meets its contract.
--- src/lib.rt:162:9
 use Rattle.value_number.proofs.number_entry.Writing.{plain-whole, plain_short, plain-pointed}
 use Rattle.base_digits.proofs.digits.Answers.{fitted, declined}
 use Rattle.value_number.proofs.number_entry.write_plain.Goals as goal

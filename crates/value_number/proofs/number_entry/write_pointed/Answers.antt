@@ -1,5 +1,4 @@
 -- `value_number::number_entry::write_pointed` meets its contract.
--- src/lib.rt:151:49
 use Rattle.value_number.proofs.number_entry.Writing.{pointed-length, front_length, pointed-written, pointed_same}
 use mathlib.Core.Path.{sym}
 use native.Mathlib.Omega.{arith}

@@ -1,5 +1,4 @@
 -- `value_number::number_entry::write_signed` meets its contract.
--- src/lib.rt:179:9
 use Rattle.value_number.proofs.number_entry.Writing.{signed-written, unsigned_written}
 use Rattle.value_number.specs.number_entry.Spelling.{sign_columns}
 use Rattle.base_digits.proofs.digits.Parts.{put_length}

@@ -1,5 +1,4 @@
 -- `value_number::number_entry::write_units` meets its contract.
--- src/lib.rt:231:9
 use Rattle.value_number.proofs.number_entry.Writing.{units_full, units_least}
 use Rattle.base_digits.specs.digits.Digits.{size}
 use Prim.Native.Nat.{◌+◌, max}

@@ -1,6 +1,6 @@
 -- `value_number::shapes::mark_of` meets its contract: the walk keeps: what stands at the front is what it passed and what follows.
 use mathlib.Core.Path.{sym, ap, ◌∙◌}
-use Prim.Native.Nat.{◌+◌, ◌-◌}
+use Prim.Native.Nat.{◌+◌}
 use native.Mathlib.Omega.{arith}
 use lib.ListN.{drop}
 use Rattle.base_digits.proofs.digits.Walk.{run_from, run_starts, run_stops, run_goes, run_ends, is_digit_lem, below_digit, above_digit}

@@ -1,6 +1,5 @@
 -- `value_number::shapes::run_of` meets its contract: the walk keeps: what stands at the front is what it passed and what follows.
 use mathlib.Core.Path.{sym, ◌∙◌}
-use Prim.Native.Nat.{◌-◌}
 use native.Mathlib.Omega.{arith}
 use native.Mathlib.Nat.{zero-add}
 use borrow.Author.Rules.{rules}

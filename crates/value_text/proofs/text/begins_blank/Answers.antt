@@ -1,5 +1,4 @@
 -- `value_text::text::begins_blank` meets its contract.
--- src/lib.rt:41:9
 use Rattle.value_text.proofs.text.Ends.{blank_none, blank_some}
 use mathlib.Core.Path.{sym}
 use Rattle.value_text.proofs.text.begins_blank.Goals as goal

@@ -1,5 +1,4 @@
 -- `value_text::text::stretch` meets its contract.
--- src/lib.rt:32:9
 use Rattle.value_text.specs.text.Texts.{text_of}
 use lib.Seq.{length-take-le}
 use lib.ListN.{take}

@@ -1,5 +1,4 @@
 -- `value_text::text_entry::well_formed` meets its contract.
--- src/lib.rt:69:9
 use Rattle.value_text.proofs.text.Ends.{formed_empty, formed_trailing, formed_is}
 use Rattle.value_text.specs.text.Texts.{leading_blank}
 use mathlib.Core.Bool.{◌||◌, not}

@@ -1,5 +1,4 @@
 -- `value_text::text_entry::write_text` meets its contract.
--- src/lib.rt:97:9
 use Rattle.value_text.proofs.text.Ends.{text_unprintable, text_malformed, text_no_room, text-agreed, filled}
 use Rattle.base_digits.proofs.digits.Answers.{made, turned_away}
 use mathlib.Core.Path.{sym, ◌∙◌}
