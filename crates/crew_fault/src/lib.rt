@@ -1,4 +1,6 @@
 // A fault told to people: the card as it stands, a caret under the column, and one sentence in the crew's words.
+#![tactic(auto)]
+
 pub mod names;
 pub mod places;
 

@@ -1,4 +1,6 @@
 // A refusal told to people: the card as it stands, a caret under the column, and one sentence for the number.
+#![tactic(auto)]
+
 pub mod fields;
 pub mod malformed;
 

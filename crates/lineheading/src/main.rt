@@ -1,5 +1,8 @@
 // The crew's program for the display: the corrected heading of a compass, by the header on standard input and by its arguments, the
 // serial, the raw reading and the direction of the line.
+
+#![tactic(auto)]
+
 mod words;
 
 use base_digits::digits;

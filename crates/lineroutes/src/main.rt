@@ -1,4 +1,6 @@
 // The crew's program for datums: how each datum that is defined is brought to datum 1, shift by shift.
+#![tactic(auto)]
+
 ghost use Rattle.std.specs.Prelude.{◌<◌};
 
 use base_refusal::{DATUM_TWICE, Refusal};

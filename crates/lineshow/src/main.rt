@@ -1,4 +1,6 @@
 // The crew's program for people: each line that linecheck writes of a header, followed by what it means.
+#![tactic(auto)]
+
 use base_refusal::Refusal;
 use crew_answer::lines;
 use crew_fault::places;

@@ -1,4 +1,6 @@
 // The crew's program for volumes: reads a volume from standard input, and writes what is asked for on standard output.
+#![tactic(auto)]
+
 mod listing;
 mod words;
 

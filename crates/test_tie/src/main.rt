@@ -1,4 +1,6 @@
 // Answers a script that makes headers and asks for their broken ties and their keys.
+#![tactic(auto)]
+
 mod keyed;
 mod lists;
 

@@ -2,14 +2,10 @@
 use Prim.Native.Nat.{ℕ}
 use mathlib.Core.Path.{◌≡◌, sym}
 use lib.ListN.{length, replicate, length-replicate}
-use Rattle.linevolume.proofs.volume_room.Statement.{statement}
-use Rattle.linevolume.proofs.volume_room.Tie as tie
+use Rattle.linevolume.proofs.volume_room.Goals as goal
 
 zeros : (n : ℕ) → n ≡ length {0} {A = ℕ} (replicate {0} {A = ℕ} n 0)
 zeros n = sym (length-replicate {0} {A = ℕ} n 0)
 
-returns : tie.Need-returns
+pub returns : goal.returns
 returns c = zeros 1600080
-
-pub volume-room-spec : {M : Type 1} → statement M
-volume-room-spec = tie.close (tie.spec returns)
