@@ -112,7 +112,7 @@ ssize_t write(int file, const void *from, size_t size)
     return tried && file == STANDARD_OUTPUT ? compare(from, size) : noted(kernel(CALL_WRITE, file, (long)from, (long)size));
 }
 
-/* A program begins by asking that a pipe without a reader be an error and no signal. Aboard it stays the signal that ends it. */
+/* A program begins by asking that a pipe without a reader be an error and no signal. Aboard it stays the signal. */
 void *__sysv_signal(int number, void *action)
 {
     (void)number;

@@ -2,8 +2,8 @@
  *
  * Link with libp294.a, which `tools/archive` writes to target/staticlib (x86-64 Linux, System V calls). The functions
  * keep nothing between calls, allocate nothing and want only memcpy and memset of the C library, so they may be called from
- * any thread. p294_check takes up to 256,000 bytes of stack, a put up to 600, every other function up to 4,000: somewhat less was
- * measured of each, and nothing is proved of the stack.
+ * any thread. p294_check takes up to 262,144 bytes of stack, one that reads or writes a field up to 600, every other function
+ * up to 20,000: somewhat less was measured of each, and nothing is proved of the stack.
  *
  * A CARD is 80 bytes, 32 to 126 each. Columns, cards and fields count from 1; the fields of a code are numbered from left
  * to right, a label being none. A HEADER is at most 4,096 cards, one behind the other, with no separators.
