@@ -1,6 +1,5 @@
 -- `card_check::first_filled` meets its contract.
 use mathlib.Core.Path.{sym, ◌∙◌, refl}
-use Prim.Native.Nat.{◌-◌}
 use Rattle.base_lists.proofs.Finding.{stops, goes, over}
 use Rattle.card_check.specs.Judging.{filled_at}
 use Rattle.card_check.proofs.Ways.{filled_here, blank_here}

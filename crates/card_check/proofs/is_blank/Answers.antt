@@ -1,5 +1,4 @@
 -- `card_check::is_blank` meets its contract.
-use Prim.Native.Nat.{◌-◌}
 use Rattle.card_check.proofs.Ways.{blank_first, blank_more, blank_all}
 use native.Mathlib.Omega.{arith}
 use Rattle.card_check.proofs.is_blank.Goals as goal

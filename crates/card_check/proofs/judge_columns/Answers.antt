@@ -1,6 +1,6 @@
 -- `card_check::judge_columns` meets its contract.
 use mathlib.Core.Path.{sym, ◌∙◌, refl, subst}
-use Prim.Native.Nat.{◌-◌, ◌+◌}
+use Prim.Native.Nat.{◌+◌}
 use lib.Dec.{T}
 use Rattle.format_layout.proofs.Columns.{is_in_order}
 use Rattle.format_layout.proofs.Numbers.{found_wide}

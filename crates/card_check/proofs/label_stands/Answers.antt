@@ -1,6 +1,5 @@
 -- `card_check::label_stands` meets its contract.
 use mathlib.Core.Path.{sym, ◌∙◌}
-use Prim.Native.Nat.{◌-◌}
 use borrow.Author.Count.{below_none, below_more}
 use Rattle.card_check.proofs.Ways.{label-other, label_here}
 use native.Mathlib.Omega.{arith}

@@ -1,5 +1,5 @@
 -- `header_check::forms::notes_of` meets its contract.
-use Prim.Native.Nat.{◌+◌, ◌*◌, ◌≤◌, ◌-◌, ◌/◌}
+use Prim.Native.Nat.{◌+◌, ◌*◌, ◌≤◌, ◌/◌}
 use mathlib.Core.Path.{◌≡◌, refl, ap, ◌∙◌}
 use lib.ListN.{length}
 use native.Mathlib.Omega.{arith}

@@ -1,7 +1,6 @@
 -- `tie_rules::packing::bits_in` meets its contract: what was walked over, from the back, is printable and makes the bits so far.
 use Prim.Native.Nat.{◌-◌}
 use mathlib.Core.Path.{◌∙◌}
-use mathlib.Core.Bool.{true}
 use native.Mathlib.Omega.{arith}
 use Rattle.tie_rules.proofs.packing.Bits.{bits_begin, printed_begin, bits_room, bits_stop, bits_more, printed_more, bits_end}
 use Rattle.tie_rules.proofs.packing.bits_in.Goals as goal

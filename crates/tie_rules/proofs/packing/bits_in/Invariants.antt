@@ -1,5 +1,5 @@
 -- `tie_rules::packing::bits_in` meets its contract: what was walked over, from the back, is printable and makes the bits so far.
-use Prim.Native.Nat.{◌≤◌, ◌-◌}
+use Prim.Native.Nat.{◌≤◌}
 use mathlib.Core.Path.{◌≡◌}
 use mathlib.Core.Bool.{true}
 use lib.ListN.{length, drop}
