@@ -1,5 +1,4 @@
 -- `push_all` meets its contract: what is left to put is put behind what stands.
-use Prim.Native.Nat.{◌-◌}
 use mathlib.Core.Path.{sym, ◌∙◌}
 use native.Mathlib.Omega.{arith}
 use borrow.Author.Rules.{rules}

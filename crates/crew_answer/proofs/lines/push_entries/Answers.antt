@@ -1,5 +1,4 @@
 -- `push_entries` meets its contract: one entry more behind those that stand.
-use Prim.Native.Nat.{◌-◌}
 use mathlib.Core.Path.{◌≡◌, refl}
 use native.Mathlib.Numerals.{add-one}
 use native.Mathlib.Omega.{arith}

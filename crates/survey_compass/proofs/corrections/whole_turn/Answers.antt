@@ -1,5 +1,4 @@
 -- `survey_compass::corrections::whole_turn` meets its contract.
-use Prim.Native.Nat.{◌-◌}
 use mathlib.Core.Path.{ap, ◌∙◌}
 use native.Mathlib.Omega.{arith}
 use Rattle.survey_compass.specs.Corrections.{turn}

@@ -1,5 +1,4 @@
 -- `survey_compass::directions::least_rank` meets its contract.
-use Prim.Native.Nat.{◌-◌}
 use native.Mathlib.Omega.{arith}
 use Rattle.survey_compass.proofs.Nearest.{least-none, least_more, least-all}
 use Rattle.survey_compass.proofs.directions.least_rank.Goals as goal

@@ -1,5 +1,4 @@
 -- `survey_compass::directions::listed_twice` meets its contract.
-use Prim.Native.Nat.{◌-◌}
 use mathlib.Core.Path.{refl, ap, ◌∙◌}
 use lib.Dec.{ltb}
 use native.Mathlib.Omega.{arith}

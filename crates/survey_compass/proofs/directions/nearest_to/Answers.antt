@@ -1,5 +1,4 @@
 -- `survey_compass::directions::nearest_to` meets its contract.
-use Prim.Native.Nat.{◌-◌}
 use mathlib.Core.Path.{sym, ◌∙◌}
 use native.Mathlib.Omega.{arith}
 use Rattle.base_lists.proofs.Finding.{begins, stops, goes, over}

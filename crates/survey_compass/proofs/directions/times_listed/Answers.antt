@@ -1,5 +1,4 @@
 -- `survey_compass::directions::times_listed` meets its contract.
-use Prim.Native.Nat.{◌-◌}
 use mathlib.Core.Path.{refl, ap, ◌∙◌}
 use lib.Dec.{eqb}
 use native.Mathlib.Omega.{arith}

@@ -1,5 +1,4 @@
 -- `survey_datums::listing::lay` meets its contract.
-use Prim.Native.Nat.{◌-◌}
 use native.Mathlib.Omega.{arith}
 use mathlib.Core.Path.{refl, ◌∙◌}
 use lib.ListN.{length, length-set}

@@ -1,5 +1,4 @@
 -- `survey_datums::routing::card_of` meets its contract.
-use Prim.Native.Nat.{◌-◌}
 use mathlib.Core.Path.{◌≡◌}
 use lib.ListN.{get_or}
 use Rattle.survey_datums.specs.routing.Chains.{route}

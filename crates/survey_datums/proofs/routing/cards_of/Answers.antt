@@ -1,11 +1,10 @@
 -- `survey_datums::routing::cards_of` meets its contract.
-use Prim.Native.Nat.{◌-◌}
 use native.Mathlib.Omega.{arith}
 use mathlib.Core.Path.{◌≡◌, refl, ap, ◌∙◌}
 use mathlib.Core.List.{map}
 use lib.ListN.{length-set, replicate}
 use Rattle.base_lists.specs.Parts.{up_to}
-use Rattle.survey_datums.specs.routing.Tables.{card_of, cards_of}
+use Rattle.survey_datums.specs.routing.Tables.{cards_of}
 use Rattle.survey_datums.proofs.routing.Filling.{fill_begins, fill_next, fill_ends}
 use Rattle.survey_datums.proofs.routing.cards_of.Invariants.{at_place}
 use Rattle.survey_datums.proofs.routing.cards_of.Goals as goal

@@ -1,5 +1,4 @@
 -- `survey_datums::routing::distances` meets its contract.
-use Prim.Native.Nat.{◌-◌}
 use native.Mathlib.Omega.{arith}
 use Rattle.survey_datums.proofs.routing.Levels.{level_first, level_next, level_last}
 use Rattle.survey_datums.proofs.routing.distances.Goals as goal

@@ -1,11 +1,10 @@
 -- `survey_datums::routing::go_further` meets its contract.
-use Prim.Native.Nat.{◌-◌}
 use native.Mathlib.Omega.{arith}
 use mathlib.Core.Path.{◌≡◌, ap, ◌∙◌}
 use mathlib.Core.List.{map}
 use lib.ListN.{length-set}
 use Rattle.base_lists.specs.Parts.{up_to}
-use Rattle.survey_datums.specs.routing.Tables.{further_by, further}
+use Rattle.survey_datums.specs.routing.Tables.{further}
 use Rattle.survey_datums.proofs.routing.Filling.{fill_begins, fill_next, fill_ends}
 use Rattle.survey_datums.proofs.routing.go_further.Invariants.{of-datum}
 use Rattle.survey_datums.proofs.routing.go_further.Goals as goal

@@ -1,5 +1,4 @@
 -- `survey_datums::routing::next_datum` meets its contract.
-use Prim.Native.Nat.{◌-◌}
 use native.Mathlib.Omega.{arith}
 use Rattle.survey_datums.proofs.routing.Steps as steps
 use Rattle.survey_datums.proofs.routing.next_datum.Goals as goal

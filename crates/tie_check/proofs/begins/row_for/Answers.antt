@@ -1,5 +1,4 @@
 -- `tie_check::begins::row_for` meets its contract.
-use Prim.Native.Nat.{◌-◌}
 use mathlib.Core.Path.{◌≡◌, sym, ap, ◌∙◌}
 use lib.ListN.{get_or}
 use native.Mathlib.Decide.{dec_lt}

@@ -1,5 +1,5 @@
 -- `tie_check::begins::some_left` meets its contract.
-use Prim.Native.Nat.{◌+◌, ◌-◌}
+use Prim.Native.Nat.{◌+◌}
 use mathlib.Core.Path.{refl, sym, ◌∙◌}
 use native.Mathlib.Omega.{arith}
 use Rattle.format_layout.proofs.Numbering.{row_inside, fields-few}

@@ -1,5 +1,4 @@
 -- `tie_check::flagging::flag_shared` meets its contract: one entry after the other.
-use Prim.Native.Nat.{◌-◌}
 use mathlib.Core.Path.{◌≡◌, ap, ◌∙◌}
 use lib.ListN.{length}
 use native.Mathlib.Omega.{arith}

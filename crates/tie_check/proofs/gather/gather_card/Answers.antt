@@ -1,5 +1,4 @@
 -- `tie_check::gather::gather_card` meets its contract: one column after the other that can carry a tie.
-use Prim.Native.Nat.{◌-◌}
 use mathlib.Core.Path.{◌≡◌, refl, ap, ◌∙◌}
 use native.Mathlib.Omega.{arith}
 use Rattle.tie_store.specs.Store.{count_in}

@@ -1,5 +1,5 @@
 -- `tie_check::listing::list_cards` meets its contract.
-use Prim.Native.Nat.{◌-◌, ◌/◌}
+use Prim.Native.Nat.{◌/◌}
 use mathlib.Core.Path.{◌≡◌, refl, ap, ◌∙◌}
 use mathlib.Core.List.{flat_map}
 use lib.ListN.{length}

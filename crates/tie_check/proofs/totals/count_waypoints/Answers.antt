@@ -1,5 +1,4 @@
 -- `tie_check::totals::count_waypoints` meets its contract: one number more.
-use Prim.Native.Nat.{◌-◌}
 use mathlib.Core.Path.{◌≡◌, refl, ap, ◌∙◌}
 use native.Mathlib.Omega.{arith}
 use Rattle.tie_check.specs.packed.Totals.{waypoints_to}

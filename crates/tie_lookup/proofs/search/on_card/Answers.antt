@@ -1,5 +1,4 @@
 -- `tie_lookup::search::on_card` meets its contract.
-use Prim.Native.Nat.{◌-◌}
 use mathlib.Core.Path.{◌≡◌}
 use native.Mathlib.Omega.{arith}
 use Rattle.tie_lookup.proofs.search.OnCard.{bears-row, column_at_lem, no_times, times_more, held_first, held_more, all_found}
