@@ -16,10 +16,7 @@ pub struct Run {
 pub fn cap(n: u64) -> u64
     ensures { result ≡ capped n }
 {
-    if n < LIMIT {
-        return n;
-    }
-    LIMIT
+    n.min(LIMIT)
 }
 
 // A number with one more digit behind it, or the limit.
@@ -27,7 +24,7 @@ fn grown(n: u64, digit: u8) -> u64
     requires { (n ≤ 1000000000000000000) × (48 ≤ digit) × (digit ≤ 57) }
     ensures { result ≡ capped (n * 10 + (digit - 48)) }
 {
-    cap(n * 10 + ((digit - 48) as u64))
+    cap(n * 10 + u64::from(digit - b'0'))
 }
 
 // Reads the digits at the front of s behind the number n.
@@ -36,19 +33,16 @@ pub fn read_run(s: &[u8], n: u64) -> Run
     ensures within { result.count ≤ length s.now }
 {
     let mut number = cap(n);
-    let mut i = 0;
-    while i < s.len() {
-        let b = s[i];
-        if b < 48 {
-            return Run { number, count: i };
-        }
-        if 57 < b {
-            return Run { number, count: i };
+    for (count, &b) in s.iter().enumerate() {
+        if !b.is_ascii_digit() {
+            return Run { number, count };
         }
         number = grown(number, b);
-        i += 1;
     }
-    Run { number, count: i }
+    Run {
+        number,
+        count: s.len(),
+    }
 }
 
 // How many blanks stand at the front of s.
@@ -56,12 +50,5 @@ pub fn padding(s: &[u8]) -> usize
     ensures found { result ≡ blanks s.now }
     ensures within { result ≤ length s.now }
 {
-    let mut i = 0;
-    while i < s.len() {
-        if s[i] != 32 {
-            return i;
-        }
-        i += 1;
-    }
-    i
+    s.iter().take_while(|b| **b == b' ').count()
 }

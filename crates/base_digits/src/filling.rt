@@ -8,11 +8,9 @@ pub fn fill_digits(columns: &mut [u8], n: u64) -> u64
     ensures columns { columns.new ≡ digits (length columns.old) n }
 {
     let mut rest = n;
-    let mut i = columns.len();
-    while 0 < i {
-        i -= 1;
-        columns[i] = 48 + (rest % 10) as u8;
-        rest = rest / 10;
+    for i in (0..columns.len()).rev() {
+        columns[i] = b'0' + (rest % 10) as u8;
+        rest /= 10;
     }
     rest
 }
@@ -21,11 +19,7 @@ pub fn fill_digits(columns: &mut [u8], n: u64) -> u64
 pub fn fill_blanks(columns: &mut [u8])
     ensures { columns.new ≡ replicate (length columns.old) 32 }
 {
-    let mut i = 0;
-    while i < columns.len() {
-        columns[i] = 32;
-        i += 1;
-    }
+    columns.fill(b' ');
 }
 
 // How many digits n has; zero has one.
@@ -33,11 +27,5 @@ pub fn size_of(n: u64) -> usize
     ensures found { result ≡ size n }
     ensures within { (1 ≤ result) × (result ≤ 20) }
 {
-    let mut rest = n;
-    let mut k = 0;
-    while 10 <= rest {
-        rest = rest / 10;
-        k += 1;
-    }
-    k + 1
+    n.max(1).ilog10() as usize + 1
 }

@@ -6,14 +6,12 @@ ghost use Rattle.base_digits.specs.signs.Signs.{signed_of, is_minus};
 use crate::digits;
 
 // Minus n, or n; from the limit on, the limit.
+#[tactic(auto, unfolding(crate::specs::signs::Signs::signed_of))]
 pub fn signed(minus: bool, n: u64) -> i64
     ensures { result ≡ signed_of minus (capped n) }
 {
-    let m = digits::cap(n);
-    if minus {
-        return 0 - (m as i64);
-    }
-    m as i64
+    let m = digits::cap(n) as i64;
+    if minus { -m } else { m }
 }
 
 // Whether z is below zero.
@@ -27,8 +25,5 @@ pub fn below_zero(z: i64) -> bool
 pub fn magnitude(z: i64) -> u64
     ensures { result ≡ nat_abs z }
 {
-    if z < 0 {
-        return ((0 - (z + 1)) as u64) + 1;
-    }
-    z as u64
+    z.unsigned_abs()
 }

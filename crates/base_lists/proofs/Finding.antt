@@ -1,12 +1,19 @@
 -- Laws of `first`: the least number below n that passes a test, n where none does.
 -- Assumes nothing.
 use mathlib.Core.Path.{◌≡◌, refl, sym, ◌∙◌, ap}
-use mathlib.Core.Bool.{Bool, true, false, true≢false}
+use mathlib.Core.Bool.{Bool, true, false, cond, true≢false}
 use Prim.Native.Nat.{ℕ, zero, suc, ◌+◌, ◌-◌, ◌≤◌, ◌<◌}
 use native.Mathlib.Nat.{sub-zero}
 use native.Mathlib.Numerals.{add-one}
 use native.Mathlib.Decide.{dec_lt, ℕ_discrete}
 use native.Mathlib.Omega.{arith}
+use mathlib.Core.List.{List}
+use lib.ListN.{length, get_or}
+use Rattle.std.specs.List.{position_or_len}
+use Rattle.std.specs.Prelude.{Some, None, unwrap_or, position}
+use borrow.Author.Tests.{ltb-false}
+use lib.Dec.{ltb}
+use Rattle.std.proofs.lemmas.List.Sums.{position_or_len_is}
 use Rattle.base_lists.specs.Count.{first, first_from}
 
 module _ (p : ℕ → Bool) where
@@ -125,3 +132,16 @@ first_cut p e n h stop = elim (dec_lt (first p e) e) [
         | no m ↦ let same : n ≡ e = omega arith in ap (first p) same
       ]
 ]
+
+-- the first place of a list whose element passes, as `position` and `unwrap_or` answer it
+pub first_place : {A : Type 0} (p : A → Bool) (xs : List A) (d : A)
+    → unwrap_or (position p xs) (length xs) ≡ first (λ i. p (get_or xs i d)) (length xs)
+first_place p xs d =
+    let q = λ (i : ℕ). p (get_or xs i d) in
+    let n = length xs in
+    let e : position_or_len p xs ≡ first q n = position_or_len_is p xs (first q n) d (first_le q n) (first_below q n) (first_passes q n) in
+    rw e (read (ltb (first q n) n) (first q n) n refl (first_le q n))
+  where
+    read : (b : Bool) (k n : ℕ) → ltb k n ≡ b → k ≤ n → unwrap_or (cond b (Some k) None) n ≡ k
+    read true k n e l = refl
+    read false k n e l = omega (arith, ltb-false k n e, l)

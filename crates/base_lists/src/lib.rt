@@ -13,35 +13,19 @@ ghost use Rattle.base_lists.specs.Parts.{alike};
 pub fn bit_of(b: bool) -> usize
     ensures { (result ≡ bit b) × (result ≤ 1) }
 {
-    if b {
-        return 1;
-    }
-    0
+    usize::from(b)
 }
 
 // The byte at i, 0 past the end.
 pub fn byte_at(s: &[u8], i: usize) -> u8
     ensures { result ≡ get_or s.now i 0 }
 {
-    if i < s.len() {
-        return s[i];
-    }
-    0
+    s.get(i).copied().unwrap_or(0)
 }
 
 // Whether two texts are the same.
 pub fn same(s: &[u8], t: &[u8]) -> bool
     ensures { result ≡ alike s.now t.now }
 {
-    if s.len() != t.len() {
-        return false;
-    }
-    let mut i = 0;
-    while i < s.len() {
-        if s[i] != t[i] {
-            return false;
-        }
-        i += 1;
-    }
-    true
+    s == t
 }

@@ -69,7 +69,7 @@ pub const NO_DIRECTION: usize = 25;
 pub const NO_READING: usize = 26;
 
 // A refusal's number, card and column: 0 for a card or a column where there is none.
-#[derive(Clone, Copy)]
+#[derive(Clone, Copy, Debug, PartialEq, Eq)]
 pub struct Refusal {
     pub number: usize,
     pub card: usize,
@@ -86,10 +86,9 @@ pub fn refuse(number: usize, card: usize, column: usize) -> Refusal
     }
 }
 
-// What came of writing into columns; unless it is done they are as they were.
-#[derive(Clone, Copy)]
-pub enum Written {
-    Done,
+// Why nothing was written into columns, which are as they were.
+#[derive(Clone, Copy, Debug, PartialEq, Eq)]
+pub enum Unwritten {
     Unprintable,
     Malformed,
     OutOfRange,

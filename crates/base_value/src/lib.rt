@@ -1,7 +1,7 @@
 // What is read from the columns of a field: the values of the paper's kinds, and the two ways in which columns hold none.
 #![tactic(auto)]
 
-ghost use Rattle.std.specs.Prelude.{◌≡◌, ◌*◌, ◌^◌, ◌≤◌, min, max, ◌+ℤ◌, nat_abs};
+ghost use Rattle.std.specs.Prelude.{◌≡◌, ◌*◌, ◌^◌, ◌≤◌, min, max, nat_abs};
 ghost use Rattle.base_value.specs.Sums.{decimal, largest, raised_of, sum_of};
 
 use base_digits::{digits, signs};
@@ -34,35 +34,11 @@ impl Decimal {
     pub fn plus(self, other: Decimal) -> Decimal
         ensures { result ≡ sum_of self other }
     {
-        let p = self.places;
-        let q = other.places;
-        let places = larger(p, q);
-        let units = added(
-            raised(self.units, places - p),
-            raised(other.units, places - q),
-        );
+        let places = self.places.max(other.places);
+        let units = raised(self.units, places - self.places)
+            + raised(other.units, places - other.places);
         Decimal::new(units, places)
     }
-}
-
-// The larger of two.
-fn larger(a: usize, b: usize) -> usize
-    ensures { result ≡ max a b }
-{
-    if a < b {
-        return b;
-    }
-    a
-}
-
-// A size, or the largest.
-fn at_most(size: u64) -> u64
-    ensures { result ≡ min largest size }
-{
-    if size < Decimal::LARGEST {
-        return size;
-    }
-    Decimal::LARGEST
 }
 
 // So many places more make any size but 0 larger than the largest.
@@ -72,19 +48,8 @@ const MANY: usize = 18;
 fn grown(size: u64, more: usize) -> u64
     ensures { result ≡ min largest (size * 10 ^ more) }
 {
-    if size == 0 {
-        return 0;
-    }
-    if MANY <= more {
-        return Decimal::LARGEST;
-    }
-    let mut grown = at_most(size);
-    let mut i = 0;
-    while i < more {
-        grown = at_most(grown * 10);
-        i += 1;
-    }
-    grown
+    size.saturating_mul(10u64.pow(more.min(MANY) as u32))
+        .min(Decimal::LARGEST)
 }
 
 // Units with more places; where the size would be over the largest, the largest.
@@ -92,18 +57,7 @@ fn raised(units: i64, more: usize) -> i64
     ensures raised { result ≡ raised_of units more }
     ensures within { nat_abs result ≤ largest }
 {
-    signs::signed(
-        signs::below_zero(units),
-        grown(signs::magnitude(units), more),
-    )
-}
-
-// The sum of two numbers of units that have the same places.
-fn added(a: i64, b: i64) -> i64
-    requires { (nat_abs a ≤ largest) × (nat_abs b ≤ largest) }
-    ensures { result ≡ a +ℤ b }
-{
-    a + b
+    signs::signed(units < 0, grown(units.unsigned_abs(), more))
 }
 
 // Year, month and day; not all such numbers are a day of the calendar.
@@ -132,10 +86,9 @@ pub enum Value {
     Text(Columns),
 }
 
-// What stands in a field's columns.
-#[derive(Clone, Copy)]
-pub enum Reading {
-    Held(Value),
+// Why columns hold no value.
+#[derive(Clone, Copy, Debug, PartialEq, Eq)]
+pub enum Unread {
     Malformed,
     OutOfRange,
 }

@@ -14,13 +14,15 @@ use Rattle.base_lists.proofs.Finding.{stops, goes}
 use Rattle.format_layout.specs.declared.Field.{Field}
 use Rattle.format_layout.specs.declared.Form.{Form}
 use Rattle.format_layout.proofs.Columns.{is_in_order, Lies, front, rest}
-use Rattle.card_check.specs.declared.Verdict.{Verdict}
-use Rattle.card_check.specs.declared.Verdict.TheVariants.{Fine, Offence}
 use Rattle.card_check.specs.Judging.{field_offence, filled_at, gap_offence, column_offence, next_verdict, verdict_at, verdict_from}
+use Rattle.std.specs.Prelude.{Result, Ok, Err, ⊤}
+use Rattle.card_check.specs.declared.Offence.{Offence}
+use Rattle.base_refusal.specs.Refusals.{no_refusal}
+use Rattle.card_check.specs.Verdicts.{offending}
 
 module _ (offence : ℕ → ℕ) where
   -- a column with an offence decides
-  pub decides : (c : ℕ) → c ≤ 80 → (offence c ≡ 0 → ⊥) → verdict_from offence c ≡ Offence (offence c) c
+  pub decides : (c : ℕ) → c ≤ 80 → (offence c ≡ 0 → ⊥) → verdict_from offence c ≡ Err (offending (offence c) c)
   unfolding verdict_from verdict_at
   decides c h e =
       rw (stops (λ j. not (eqb (offence j) 0)) 81 c (omega arith) (ap not (ne_eqb (offence c) 0 e)), le-leb c 80 h)
@@ -32,7 +34,7 @@ module _ (offence : ℕ → ℕ) where
       ap (verdict_at offence) (goes (λ j. not (eqb (offence j) 0)) 81 c (omega arith) (ap not (eq-eqb (offence c) 0 e)))
       ∙ ap (verdict_from offence) (add-one c)
 
-  pub ends : verdict_from offence 81 ≡ Fine
+  pub ends : verdict_from offence 81 ≡ no_refusal
   unfolding verdict_from verdict_at first_from
   ends = refl
 
@@ -56,7 +58,7 @@ agrees p q (suc n) c h same = elim (ℕ_discrete (p c) 0) [
       ∙ sym (passes q c (omega arith) (sym (same c (omega arith)) ∙ z))
   | no z ↦
       decides p c (omega arith) z
-      ∙ ap (λ n. Offence n c) (same c (omega arith))
+      ∙ ap (λ n. Err (offending n c)) (same c (omega arith))
       ∙ sym (decides q c (omega arith) (λ y. z (same c (omega arith) ∙ y)))
 ]
 
@@ -67,7 +69,7 @@ agree p q c h same = agrees p q (81 - c) c (omega arith) same
 module _ (s : List ℕ) (offence : ℕ → ℕ) where
   pub gap : (n c : ℕ) → c + n ≤ 81 → ((j : ℕ) → c ≤ j → j < c + n → offence j ≡ gap_offence s j)
       → verdict_from offence c
-      ≡ cond (ltb (first_from (filled_at s) n c) (c + n)) (Offence 7 (first_from (filled_at s) n c)) (verdict_from offence (c + n))
+      ≡ cond (ltb (first_from (filled_at s) n c) (c + n)) (Err (offending 7 (first_from (filled_at s) n c))) (verdict_from offence (c + n))
   unfolding first_from gap_offence
   gap zero c h is = rw (add-zero c, le-ltb c c (omega arith))
   gap (suc n) c h is = go (filled_at s c) refl (gap n (suc c) (omega arith) (λ j a b. is j (omega arith) (omega arith)))
@@ -80,18 +82,18 @@ module _ (s : List ℕ) (offence : ℕ → ℕ) where
 
       go : (b : Bool) → filled_at s c ≡ b
           → verdict_from offence (suc c)
-          ≡ cond (ltb (first_from (filled_at s) n (suc c)) (suc c + n)) (Offence 7 (first_from (filled_at s) n (suc c))) (verdict_from offence (suc c + n))
+          ≡ cond (ltb (first_from (filled_at s) n (suc c)) (suc c + n)) (Err (offending 7 (first_from (filled_at s) n (suc c)))) (verdict_from offence (suc c + n))
           → verdict_from offence c
-          ≡ cond (ltb (cond b c (first_from (filled_at s) n (suc c))) (c + suc n)) (Offence 7 (cond b c (first_from (filled_at s) n (suc c)))) (verdict_from offence (c + suc n))
+          ≡ cond (ltb (cond b c (first_from (filled_at s) n (suc c))) (c + suc n)) (Err (offending 7 (cond b c (first_from (filled_at s) n (suc c))))) (verdict_from offence (c + suc n))
       go true q ih =
           rw (lt-ltb c (c + suc n) (omega arith))
-          (decides offence c (omega arith) (λ z. absurd (omega (arith, seven true q))) ∙ ap (λ n. Offence n c) (seven true q))
+          (decides offence c (omega arith) (λ z. absurd (omega (arith, seven true q))) ∙ ap (λ n. Err (offending n c)) (seven true q))
       go false q ih = rw e (passes offence c (omega arith) (seven false q) ∙ ih)
 
 -- first one verdict, then another
-abbrev pub then_on : Verdict → Verdict → Verdict
-then_on Fine v = v
-then_on (Offence n c) v = Offence n c
+abbrev pub then_on : Result ⊤ Offence → Result ⊤ Offence → Result ⊤ Offence
+then_on (Ok _) v = v
+then_on (Err o) v = Err o
 
 module _ (k : ℕ) (form : Form) (s : List ℕ) where
   -- a column before all fields
@@ -133,7 +135,7 @@ module _ (k : ℕ) (form : Form) (s : List ℕ) where
         rw (ne_eqb j f.first (λ q. absurd (omega (arith, lie.forward))), le-leb f.first j (omega (arith, lie.forward)), lt-leb j f.last h)
 
     from_field : verdict_from here f.first
-        ≡ then_on (cond (eqb (field_offence k form s f) 0) Fine (Offence (field_offence k form s f) f.first)) (verdict_from later (f.last + 1))
+        ≡ then_on (cond (eqb (field_offence k form s f) 0) no_refusal (Err (offending (field_offence k form s f) f.first))) (verdict_from later (f.last + 1))
     from_field = elim (ℕ_discrete (field_offence k form s f) 0) [
       | yes z ↦
           let w : f.first + (f.last + 1 - f.first) ≡ f.last + 1 = omega (arith, lie.forward) in
@@ -143,7 +145,7 @@ module _ (k : ℕ) (form : Form) (s : List ℕ) where
           ∙ agree here later (f.last + 1) (omega (arith, lie.on_card)) (λ j a. behind j (omega arith)))
       | no z ↦
           rw (ne_eqb (field_offence k form s f) 0 z)
-          (decides here f.first (omega (arith, lie.forward, lie.on_card)) (λ y. z (sym at_first ∙ y)) ∙ ap (λ n. Offence n f.first) at_first)
+          (decides here f.first (omega (arith, lie.forward, lie.on_card)) (λ y. z (sym at_first ∙ y)) ∙ ap (λ n. Err (offending n f.first)) at_first)
     ]
       where
         none : field_offence k form s f ≡ 0 → (j : ℕ) → f.first ≤ j → j < f.last + 1 → here j ≡ 0
@@ -161,7 +163,7 @@ module _ (k : ℕ) (form : Form) (s : List ℕ) where
         e = omega (arith, lie.after)
 
         go : (b : Bool) (q : ℕ)
-            → cond b (Offence 7 q) (verdict_from here f.first)
-            ≡ then_on (cond b (Offence 7 q) (cond (eqb (field_offence k form s f) 0) Fine (Offence (field_offence k form s f) f.first))) (verdict_from later (f.last + 1))
+            → cond b (Err (offending 7 q)) (verdict_from here f.first)
+            ≡ then_on (cond b (Err (offending 7 q)) (cond (eqb (field_offence k form s f) 0) no_refusal (Err (offending (field_offence k form s f) f.first)))) (verdict_from later (f.last + 1))
         go true q = refl
         go false q = from_field

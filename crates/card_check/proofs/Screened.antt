@@ -18,12 +18,13 @@ use Rattle.format_layout.proofs.Columns.{is_in_order, Lies, front, rest}
 use Rattle.card_screen.specs.Roles.{sure}
 use Rattle.card_screen.proofs.Lines.{past_plain}
 use Rattle.card_screen.proofs.Cards.{Gap, Clean, unlabelled, clean}
-use Rattle.card_check.specs.declared.Verdict.{Verdict}
-use Rattle.card_check.specs.declared.Verdict.TheVariants.{Fine}
 use Rattle.card_check.specs.Judging.{filled_at, column_offence, offence_at, next_verdict, verdict_from}
 use Rattle.card_check.proofs.Leftmost.{then_on, next_field}
 use Rattle.card_check.proofs.Ways.{blank_here, no_offence, next_fine, label_here, label_right}
 use Rattle.card_check.proofs.Walked.{in_order, end_fine}
+use Rattle.std.specs.Prelude.{Result, ⊤}
+use Rattle.card_check.specs.declared.Offence.{Offence}
+use Rattle.base_refusal.specs.Refusals.{no_refusal}
 
 -- blank columns
 none_filled : (s : List ℕ) (n c : ℕ) → Gap s c (c + n) → first_from (filled_at s) n c ≡ c + n
@@ -34,7 +35,7 @@ none_filled s (suc n) c h =
     (none_filled s n (suc c) (λ j a b. h j (omega arith) (omega arith)) ∙ omega arith)
 
 module _ (k : ℕ) (form : Form) (s : List ℕ) where
-  fields_fine : (fs : List Field) (c : ℕ) → c ≤ 81 → T (is_in_order c fs) → Clean k s c fs → verdict_from (column_offence k form s fs) c ≡ Fine
+  fields_fine : (fs : List Field) (c : ℕ) → c ≤ 81 → T (is_in_order c fs) → Clean k s c fs → verdict_from (column_offence k form s fs) c ≡ no_refusal
   unfolding column_offence
   fields_fine [] c m o h =
       let e : c + (81 - c) ≡ 81 = omega arith in
@@ -45,11 +46,11 @@ module _ (k : ℕ) (form : Form) (s : List ℕ) where
       let e : c + (f.first - c) ≡ f.first = omega (arith, li.after) in
       let q : first_from (filled_at s) (f.first - c) c ≡ c + (f.first - c) = none_filled s (f.first - c) c (subst (λ (d : ℕ). Gap s c d) (sym e) h.0) in
       let z = no_offence k form s f 0 (sym (h.1 form).0) refl in
-      let v : next_verdict k form s f c ≡ Fine = next_fine k form s f c (c + (f.first - c)) f.first refl (sym q) (omega (arith, e)) 0 (sym z) refl in
+      let v : next_verdict k form s f c ≡ no_refusal = next_fine k form s f c (c + (f.first - c)) f.first refl (sym q) (omega (arith, e)) 0 (sym z) refl in
       let more = fields_fine fs (f.last + 1) (omega (arith, li.on_card)) (subst (λ j. T (is_in_order j fs)) (sym (add-one f.last)) (rest c f fs o)) h.2 in
-      next_field k form s f fs c o ∙ ap (λ (x : Verdict). then_on x (verdict_from (column_offence k form s fs) (f.last + 1))) v ∙ more
+      next_field k form s f fs c o ∙ ap (λ (x : Result ⊤ Offence). then_on x (verdict_from (column_offence k form s fs) (f.last + 1))) v ∙ more
 
-  pub sure_fine : length s ≡ 80 → sure k s ≡ true → verdict_from (offence_at k form s) 6 ≡ Fine
+  pub sure_fine : length s ≡ 80 → sure k s ≡ true → verdict_from (offence_at k form s) 6 ≡ no_refusal
   sure_fine whole h =
       let none : length (label_of k) ≡ 0 = unlabelled k s whole h in
       label_right k form s (label_here k s whole (omega (arith, none)) (λ j l. absurd (omega (arith, none)))) (omega (arith, none)) 6 (omega (arith, none))

@@ -12,15 +12,16 @@ use borrow.Author.Tests.{lt-ltb, le-ltb}
 use Rattle.base_lists.specs.Count.{first_from}
 use Rattle.format_layout.specs.declared.Field.{Field}
 use Rattle.format_layout.specs.declared.Form.{Form}
-use Rattle.format_layout.specs.declared.Found.TheVariants.{Is}
 use Rattle.format_layout.specs.Layouts.{fields_of, label_of, layout_at, field_of, no_field}
 use Rattle.format_layout.proofs.Columns.{is_in_order, ordered, all_ordered, of_layout, Lies, front, rest}
 use Rattle.format_layout.proofs.Places.{has_fields}
 use Rattle.format_layout.proofs.Numbers.{numbered}
-use Rattle.card_check.specs.declared.Verdict.{Verdict}
-use Rattle.card_check.specs.declared.Verdict.TheVariants.{Fine, Offence}
 use Rattle.card_check.specs.Judging.{filled_at, gap_offence, column_offence, next_verdict, verdict_from}
 use Rattle.card_check.proofs.Leftmost.{ends, gap, then_on, next_field}
+use Rattle.std.specs.Prelude.{Result, Err, Some, ⊤}
+use Rattle.card_check.specs.declared.Offence.{Offence}
+use Rattle.base_refusal.specs.Refusals.{no_refusal}
+use Rattle.card_check.specs.Verdicts.{offending}
 
 -- the fields of a layout stand in order behind its label
 pub in_order : (k : ℕ) → T (is_in_order (6 + length (label_of k)) (fields_of k))
@@ -32,7 +33,7 @@ in_order k = go (layout_at k).fields refl
     go (f ∷ fs) q = of_layout ordered all_ordered k (has_fields k 0 (omega (arith, ap length q)))
 
 -- one field more
-module _ (k n c : ℕ) (f : Field) (inside : n < length (fields_of k)) (found : field_of k (n + 1) ≡ Is f) (t : T (is_in_order c (drop n (fields_of k)))) where
+module _ (k n c : ℕ) (f : Field) (inside : n < length (fields_of k)) (found : field_of k (n + 1) ≡ Some f) (t : T (is_in_order c (drop n (fields_of k)))) where
   split : drop n (fields_of k) ≡ f ∷ drop (n + 1) (fields_of k)
   split =
       let e : n + 1 - 1 ≡ n = omega arith in
@@ -50,7 +51,7 @@ module _ (k n c : ℕ) (f : Field) (inside : n < length (fields_of k)) (found : 
   onward =
       subst (λ j. T (is_in_order j (drop (n + 1) (fields_of k)))) (sym (add-one f.last)) (rest c f (drop (n + 1) (fields_of k)) in_place)
 
-  module _ (form : Form) (s : List ℕ) (v : Verdict) (is : v ≡ next_verdict k form s f c) where
+  module _ (form : Form) (s : List ℕ) (v : Result ⊤ Offence) (is : v ≡ next_verdict k form s f c) where
     walked : verdict_from (column_offence k form s (drop n (fields_of k))) c
         ≡ then_on v (verdict_from (column_offence k form s (drop (n + 1) (fields_of k))) (f.last + 1))
     walked =
@@ -59,13 +60,13 @@ module _ (k n c : ℕ) (f : Field) (inside : n < length (fields_of k)) (found : 
         ∙ ap (λ x. then_on x (verdict_from (column_offence k form s (drop (n + 1) (fields_of k))) (f.last + 1))) (sym is)
 
     -- it goes on where nothing is found
-    pub walks_on : v ≡ Fine
+    pub walks_on : v ≡ no_refusal
         → verdict_from (column_offence k form s (drop n (fields_of k))) c
         ≡ verdict_from (column_offence k form s (drop (n + 1) (fields_of k))) (f.last + 1)
     walks_on q = walked ∙ ap (λ x. then_on x (verdict_from (column_offence k form s (drop (n + 1) (fields_of k))) (f.last + 1))) q
 
     -- and stops at an offence
-    pub halts : (a b : ℕ) → v ≡ Offence a b → verdict_from (column_offence k form s (drop n (fields_of k))) c ≡ v
+    pub halts : (a b : ℕ) → v ≡ Err (offending a b) → verdict_from (column_offence k form s (drop n (fields_of k))) c ≡ v
     halts a b q =
         walked ∙ ap (λ x. then_on x (verdict_from (column_offence k form s (drop (n + 1) (fields_of k))) (f.last + 1))) q ∙ sym q
 
@@ -77,13 +78,13 @@ at_end k form s n c over =
     ap (λ (l : List Field). verdict_from (column_offence k form s l) c) (drop_of_length-le (fields_of k) {i = n} over)
 
 module _ (s : List ℕ) (c q : ℕ) (on : c ≤ 81) (is : q ≡ first_from (filled_at s) (81 - c) c) where
-  rest_is : verdict_from (gap_offence s) c ≡ cond (ltb q 81) (Offence 7 q) Fine
+  rest_is : verdict_from (gap_offence s) c ≡ cond (ltb q 81) (Err (offending 7 q)) no_refusal
   rest_is =
       let e : c + (81 - c) ≡ 81 = omega arith in
       gap s (gap_offence s) (81 - c) c (omega arith) (λ j a b. refl) ∙ rw (e, ← is, ends (gap_offence s))
 
-  pub end_fine : 80 < q → verdict_from (gap_offence s) c ≡ Fine
+  pub end_fine : 80 < q → verdict_from (gap_offence s) c ≡ no_refusal
   end_fine h = rest_is ∙ rw (le-ltb q 81 (omega arith))
 
-  pub end_filled : q ≤ 80 → verdict_from (gap_offence s) c ≡ Offence 7 q
+  pub end_filled : q ≤ 80 → verdict_from (gap_offence s) c ≡ Err (offending 7 q)
   end_filled h = rest_is ∙ rw (lt-ltb q 81 (omega arith))

@@ -2,13 +2,17 @@
 use Prim.Native.Nat.{ℕ, zero, suc, ◌+◌, ◌-◌, ◌≤◌, ◌<◌}
 use native.Mathlib.Omega.{arith}
 use native.Mathlib.Decide.{ℕ_discrete}
-use mathlib.Core.Path.{◌≡◌, refl, sym, ap, ◌∙◌}
+use native.Mathlib.Nat.{zero-add}
+use mathlib.Core.Path.{◌≡◌, refl, sym, ap, subst, ◌∙◌}
 use mathlib.Core.List.{List, [], ◌∷◌}
 use mathlib.Core.Bool.{Bool, true, false, cond, ◌&&◌, true≢false}
 use lib.ListN.{length, get_or, take, drop, length-drop}
 use lib.Seq.{length-take-le, get_or-take, get_or-drop, ext_get_or}
 use lib.Dec.{eqb, ltb}
-use borrow.Author.Tests.{eq-eqb, ne_eqb, lt-ltb, le-ltb, ltb-false}
+use borrow.Author.Tests.{eq-eqb, ne_eqb, lt-ltb, le-ltb}
+use Rattle.std.specs.Prelude.{MatchBool, Err}
+use Rattle.std.specs.List.{range_with_len, AllWithin, HoldsAt}
+use Rattle.std.proofs.lemmas.List.FromFn.{length-range_with_len, get_or-range_with_len}
 use Rattle.base_lists.specs.Count.{first_from}
 use Rattle.base_lists.specs.Parts.{alike}
 use Rattle.base_lists.proofs.Finding.{stops, goes, over}
@@ -21,9 +25,10 @@ use Rattle.format_code.specs.Codes.{code_of}
 use Rattle.format_layout.specs.Layouts.{label_of, fields_of}
 use Rattle.value_text.specs.printable.Bytes.{first_bad}
 use Rattle.card_field.specs.judging.Fields.{judged_of, number_of}
-use Rattle.card_check.specs.declared.Verdict.TheVariants.{Fine, Offence}
 use Rattle.card_check.specs.Judging.{is_coordinate, field_offence, filled_at, next_verdict, label_stands, label_offence, offence_at, column_offence, verdict_from, code_verdict, verdict_of}
 use Rattle.card_check.proofs.Leftmost.{decides, skips, agree}
+use Rattle.base_refusal.specs.Refusals.{no_refusal}
+use Rattle.card_check.specs.Verdicts.{offending}
 
 -- a column that is not blank, and one that is
 pub filled_here : (s : List ℕ) (c : ℕ) → (get_or s (c - 1) 0 ≡ 32 → ⊥) → filled_at s c ≡ true
@@ -44,7 +49,7 @@ module _ (s : List ℕ) (from : ℕ) where
   pub blank_first : from ≤ 81 → Blank true from
   blank_first h = record { within = h; so_far = λ q. refl; not_so = λ q. absurd (true≢false q) }
 
-  pub blank_more : (blank : Bool) (c : ℕ) → c ≤ 80 → Blank blank c → Blank (blank && eqb (get_or s (c - 1) 0) 32) (c + 1)
+  blank_more : (blank : Bool) (c : ℕ) → c ≤ 80 → Blank blank c → Blank (blank && eqb (get_or s (c - 1) 0) 32) (c + 1)
   blank_more false c h b = record { within = omega arith; so_far = λ q. absurd (true≢false (sym q)); not_so = λ q. b.not_so refl }
   blank_more true c h b = elim (ℕ_discrete (get_or s (c - 1) 0) 32) [
     | yes q ↦ rw (eq-eqb (get_or s (c - 1) 0) 32 q) (record {
@@ -65,42 +70,50 @@ module _ (s : List ℕ) (from : ℕ) where
       sym (lt-ltb 80 (first_from (filled_at s) (81 - from) from) (omega arith))
   blank_all false c h b = sym (le-ltb 80 (first_from (filled_at s) (81 - from) from) (b.not_so refl))
 
-pub not_past : (q n : ℕ) → q ≡ n → ltb 80 n ≡ false → q ≤ 80
-not_past q n e h = omega (arith, ltb-false 80 n h)
+  -- the columns from `from` on as a slice of the card
+  module _ (whole : length s ≡ 80) (first : 1 ≤ from) (last : from ≤ 81) where
+    abbrev rest : List ℕ
+    rest = take (length s - (from - 1)) (drop (from - 1) s)
 
--- a field that is passed over, and one that is judged
-module _ (k : ℕ) (form : Form) (s : List ℕ) (f : Field) (n : ℕ) (found : n ≡ number_of (judged_of k s f form)) where
-  -- what was found counts, unless it is passed over
-  passed : field_offence k form s f ≡ cond (is_open form && is_coordinate f.kind) 0 n
-  unfolding field_offence
-  passed = rw (← found)
+    pub rest_len : length rest ≡ 81 - from
+    rest_len =
+        length-take-le (length s - (from - 1)) (drop (from - 1) s) (omega (arith, length-drop (from - 1) s)) ∙ omega (arith, whole)
 
-  pub no_offence : n ≡ 0 → field_offence k form s f ≡ 0
-  no_offence h = passed ∙ rw h (either (is_open form && is_coordinate f.kind))
-    where
-      either : (b : Bool) → ◌≡◌ {A = ℕ} (cond b 0 0) 0
-      either true = refl
-      either false = refl
+    pub blank_next : (blank : Bool) (i : ℕ) → i < length rest → Blank blank (from + i) → Blank (blank && eqb (get_or rest i 0) 32) (from + (i + 1))
+    blank_next blank i h b =
+        let e : get_or rest i 0 ≡ get_or s (from + i - 1) 0 =
+        get_or-take (length s - (from - 1)) (drop (from - 1) s) i 0 (omega (arith, h, rest_len, whole))
+        ∙ get_or-drop (from - 1) s i 0 ∙ ap (λ j. get_or s j 0) (omega arith) in
+        let n : from + (i + 1) ≡ from + i + 1 = omega arith in
+        rw (e, n) (blank_more blank (from + i) (omega (arith, h, rest_len)) b)
 
-  module _ (a b : Bool) (unknown : a ≡ is_open form) (coordinate : b ≡ is_coordinate f.kind) where
-    pub unread : (a && b) ≡ true → field_offence k form s f ≡ 0
-    unread h = passed ∙ rw (← unknown, ← coordinate, h)
+-- a field in which nothing was found
+pub no_offence : (k : ℕ) (form : Form) (s : List ℕ) (f : Field) (n : ℕ) → n ≡ number_of (judged_of k s f form) → n ≡ 0
+    → field_offence k form s f ≡ 0
+unfolding field_offence
+no_offence k form s f n found h = rw (← found, h) (either (is_open form && is_coordinate f.kind))
+  where
+    either : (b : Bool) → ◌≡◌ {A = ℕ} (cond b 0 0) 0
+    either true = refl
+    either false = refl
 
-    pub counted : (a && b) ≡ false → field_offence k form s f ≡ n
-    counted h = passed ∙ rw (← unknown, ← coordinate, h)
+-- a coordinate whose form is not known is passed over
+pub unread : (k : ℕ) (form : Form) (s : List ℕ) (f : Field) → (is_open form && is_coordinate f.kind) ≡ true → field_offence k form s f ≡ 0
+unfolding field_offence
+unread k form s f h = rw h
 
 -- the columns up to a field, and the field
 module _ (k : ℕ) (form : Form) (s : List ℕ) (f : Field) (c q first : ℕ) (begins : first ≡ f.first) (is : q ≡ first_from (filled_at s) (first - c) c) where
-  pub next-gap : q < first → next_verdict k form s f c ≡ Offence 7 q
+  pub next-gap : q < first → next_verdict k form s f c ≡ Err (offending 7 q)
   unfolding next_verdict
   next-gap h = rw (← begins, ← is, lt-ltb q first h)
 
   module _ (past : first ≤ q) (n : ℕ) (number : n ≡ field_offence k form s f) where
-    pub next_fine : n ≡ 0 → next_verdict k form s f c ≡ Fine
+    pub next_fine : n ≡ 0 → next_verdict k form s f c ≡ no_refusal
     unfolding next_verdict
     next_fine h = rw (← number, ← begins, ← is, le-ltb q first past, eq-eqb n 0 h)
 
-    pub next-field-bad : (n ≡ 0 → ⊥) → next_verdict k form s f c ≡ Offence n first
+    pub next-field-bad : (n ≡ 0 → ⊥) → next_verdict k form s f c ≡ Err (offending n first)
     unfolding next_verdict
     next-field-bad h = rw (← number, ← begins, ← is, le-ltb q first past, ne_eqb n 0 h)
 
@@ -135,12 +148,27 @@ module _ (k : ℕ) (s : List ℕ) where
       wide : length (take (length (label_of k)) (drop 5 s)) ≡ length (label_of k)
       wide = length-take-le (length (label_of k)) (drop 5 s) (rw (length-drop 5 s) (omega arith))
 
+  -- the answer of `all`, over the places of the label
+  abbrev pub Same : ℕ → Type 0
+  Same i = get_or s (5 + i) 0 ≡ get_or (label_of k) i 32
+
+  pub labelled : (n : ℕ) → n ≡ length (label_of k) → length s ≡ 80 → length (label_of k) ≤ 75 → (r : Bool)
+      → MatchBool r (AllWithin Same (range_with_len 0 n) 0 (length (range_with_len 0 n)))
+      ((j : ℕ) × (j < length (range_with_len 0 n)) × HoldsAt (λ i. Same i → ⊥) (range_with_len 0 n) j)
+      → r ≡ label_stands k s
+  labelled n e whole room true h =
+      let size = length-range_with_len 0 n in
+      sym (label_here whole room (λ j l. subst Same (get_or-range_with_len 0 n j 0 (omega (arith, e)) ∙ zero-add j) (h j 0 (omega arith) (omega (arith, e, size)))))
+  labelled n e whole room false h =
+      let l : h.0 < n = omega (arith, h.1, length-range_with_len 0 n) in
+      sym (label-other h.0 (omega (arith, e, l)) whole room _ refl (subst (λ i. Same i → ⊥) (get_or-range_with_len 0 n h.0 0 l ∙ zero-add h.0) (h.2 0)))
+
 -- a card of a read code: its label, and then the columns behind it
 module _ (k : ℕ) (form : Form) (s : List ℕ) where
-  pub label_wrong : label_stands k s ≡ false → verdict_from (offence_at k form s) 6 ≡ Offence 8 6
+  pub label_wrong : label_stands k s ≡ false → verdict_from (offence_at k form s) 6 ≡ Err (offending 8 6)
   unfolding offence_at label_offence label_stands alike
   label_wrong h =
-      decides (offence_at k form s) 6 (omega arith) (λ z. absurd (omega (arith, eight))) ∙ ap (λ n. Offence n 6) eight
+      decides (offence_at k form s) 6 (omega arith) (λ z. absurd (omega (arith, eight))) ∙ ap (λ n. Err (offending n 6)) eight
     where
       long : (l u : List ℕ) → alike (take (length l) u) l ≡ false → 0 < length l
       long [] u q = absurd (true≢false q)
@@ -166,16 +194,16 @@ module _ (k : ℕ) (form : Form) (s : List ℕ) where
 
 -- the card before its columns
 module _ (s : List ℕ) (form : Form) where
-  pub verdict_empty : length s ≡ 0 → verdict_of s form ≡ Offence 1 0
+  pub verdict_empty : length s ≡ 0 → verdict_of s form ≡ Err (offending 1 0)
   unfolding verdict_of
   verdict_empty h = rw (eq-eqb (length s) 0 h)
 
-  pub verdict_odd : (length s ≡ 0 → ⊥) → (length s ≡ 80 → ⊥) → verdict_of s form ≡ Offence 2 0
+  pub verdict_odd : (length s ≡ 0 → ⊥) → (length s ≡ 80 → ⊥) → verdict_of s form ≡ Err (offending 2 0)
   unfolding verdict_of
   verdict_odd some h = rw (ne_eqb (length s) 0 some, ne_eqb (length s) 80 h)
 
   module _ (whole : length s ≡ 80) (bad : ℕ) (is : bad ≡ first_bad s) where
-    pub verdict_bad : bad < 80 → verdict_of s form ≡ Offence 4 (bad + 1)
+    pub verdict_bad : bad < 80 → verdict_of s form ≡ Err (offending 4 (bad + 1))
     unfolding verdict_of
     verdict_bad h = rw (whole, ← is, lt-ltb bad 80 h)
 

@@ -13,7 +13,7 @@ ghost use Rattle.card_check.specs.packed.Offences.{offence_in, coordinate_readin
 ghost use Rattle.base_value.specs.Reading.{offence_of};
 
 use base_refusal::{MALFORMED, MISSING, OUTSIDE};
-use base_value::{Reading, Value};
+use base_value::{Unread, Value};
 use card_field::needing;
 use format_layout::{BLANK, Form, Kind, fields, ranges};
 use value_coordinate::axes::Axis;
@@ -25,6 +25,7 @@ use value_text::text;
 const FINE: usize = 0;
 
 // The offence of a text that is needed; lead says whether it may begin with a blank.
+#[tactic(auto, unfolding(value_field::specs::spelling::Reading::text_reading))]
 fn text_offence(s: &[u8], lead: bool) -> usize
     requires { 1 ≤ length s.now }
     ensures { result ≡ offence_of (text_reading lead s.now) }
@@ -72,18 +73,14 @@ fn whole_offence(size: u64, row: u64) -> usize
 }
 
 // The offence of a field that is needed and has no range, by what its columns read as.
-fn read_offence(read: Reading) -> usize
+fn read_offence(read: Result<Value, Unread>) -> usize
     ensures { result ≡ offence_of read }
 {
     match read {
-        Reading::Malformed => MALFORMED,
-        Reading::OutOfRange => OUTSIDE,
-        Reading::Held(v) => {
-            if let Value::Absent = v {
-                return MISSING;
-            }
-            FINE
-        }
+        Err(Unread::Malformed) => MALFORMED,
+        Err(Unread::OutOfRange) => OUTSIDE,
+        Ok(Value::Absent) => MISSING,
+        Ok(_) => FINE,
     }
 }
 

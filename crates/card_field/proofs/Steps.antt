@@ -14,22 +14,19 @@ use Rattle.base_value.specs.declared.Value.{Value}
 use Rattle.base_value.specs.declared.Value.TheVariants as value
 use Rattle.format_layout.specs.declared.Field.{Field}
 use Rattle.format_layout.specs.Forms.{form_numbered}
-use Rattle.card_field.specs.declared.judging.Judged.{Judged}
-use Rattle.card_field.specs.declared.judging.Judged.TheVariants as judged
-use Rattle.card_field.specs.declared.seeking.Sought.TheVariants.{Is}
-use Rattle.card_field.specs.declared.seeking.Way.{Way}
-use Rattle.card_field.specs.declared.seeking.Way.TheVariants as way
 use Rattle.base_refusal.specs.Refusals.{refusal}
 use Rattle.card_field.specs.seeking.Card.{sought_of, way_for}
 use Rattle.format_layout.proofs.Numbers.{found_lies}
 use Rattle.card_field.proofs.seeking.Steps.{found-there, way_refused}
 use Rattle.card_field.specs.judging.Fields.{judged_of, misplaced_on}
 use Rattle.card_field.specs.needing.Needs.{columns_of}
-use Rattle.card_field.specs.declared.FieldRead.TheVariants as read
 use Rattle.card_field.specs.Reading.{answered_of, field_on, field_reading, holds_text, text_on, field_text}
+use Rattle.std.specs.Prelude.{Result, Ok, Err}
+use Rattle.card_field.specs.seeking.Found.{sought}
+use Rattle.card_field.specs.declared.seeking.FieldRow.{FieldRow}
 
 -- a field that was found is where the functions below ask it to be
-pub found-fits : (s : List ℕ) (n form k : ℕ) (f : Field) → sought_of s n form ≡ Is k f
+pub found-fits : (s : List ℕ) (n form k : ℕ) (f : Field) → sought_of s n form ≡ Ok (sought k f)
     → (length s ≡ 80) × (1 ≤ f.first) × (f.first ≤ f.last) × (f.last ≤ 80)
 found-fits s n form k f q =
     let h = found-there s n form k f q in
@@ -37,19 +34,19 @@ found-fits s n form k f q =
     (h.whole, omega (arith, l.after), l.forward, l.on_card)
 
 -- the answer for a field, at its first column
-pub answered_not : (f : Field) (b : Bool) (j : Judged) (n column : ℕ) → j ≡ judged.Not n → column ≡ f.first
-    → read.Refused (refusal n 1 column) ≡ answered_of f b j
+pub answered_not : (f : Field) (b : Bool) (j : Result Value ℕ) (n column : ℕ) → j ≡ Err n → column ≡ f.first
+    → Err (refusal n 1 column) ≡ answered_of f b j
 unfolding answered_of
 answered_not f b j n column q e = rw (q, e)
 
 -- what reading a field puts together
-pub reading_is : (s : List ℕ) (n form k : ℕ) (f : Field) → sought_of s n form ≡ Is k f → (j : Judged) → j ≡ judged_of k s f (form_numbered form)
+pub reading_is : (s : List ℕ) (n form k : ℕ) (f : Field) → sought_of s n form ≡ Ok (sought k f) → (j : Result Value ℕ) → j ≡ judged_of k s f (form_numbered form)
     → (b : Bool) → b ≡ misplaced_on s f (form_numbered form) → answered_of f b j ≡ field_reading s n form
 unfolding field_reading field_on
 reading_is s n form k f q j e b m = rw (q, e, m)
 
 -- whether a field says a text, and the text
-pub text-other : (v : Value) → OneOf (0 ∷ 1 ∷ 2 ∷ 3 ∷ 4 ∷ []) (tag_of value-type v) → holds_text (judged.Is v) ≡ false
+pub text-other : (v : Value) → OneOf (0 ∷ 1 ∷ 2 ∷ 3 ∷ 4 ∷ []) (tag_of value-type v) → holds_text (Ok v) ≡ false
 unfolding holds_text
 text-other value.Absent h = refl
 text-other (value.Whole z) h = refl
@@ -58,12 +55,12 @@ text-other (value.Angle z) h = refl
 text-other (value.Date d) h = refl
 text-other (value.Text c) h = absurd (miss (0 ∷ 1 ∷ 2 ∷ 3 ∷ 4 ∷ []) 5 tt h)
 
-pub text-refused : (s : List ℕ) (n form : ℕ) (w : Way) (r : Refusal) → w ≡ way_for n (sought_of s n form) → w ≡ way.Refused r
+pub text-refused : (s : List ℕ) (n form : ℕ) (w : Result FieldRow Refusal) (r : Refusal) → w ≡ way_for n (sought_of s n form) → w ≡ Err r
     → field_text s n form ≡ []
 unfolding field_text text_on
 text-refused s n form w r e h = rw (way_refused s n form w e r h)
 
-module _ (s : List ℕ) (n form k : ℕ) (f : Field) (q : sought_of s n form ≡ Is k f) (j : Judged) (e : j ≡ judged_of k s f (form_numbered form)) where
+module _ (s : List ℕ) (n form k : ℕ) (f : Field) (q : sought_of s n form ≡ Ok (sought k f)) (j : Result Value ℕ) (e : j ≡ judged_of k s f (form_numbered form)) where
   pub text-none : holds_text j ≡ false → field_text s n form ≡ []
   unfolding field_text text_on
   text-none h = rw (q, ← e, h)

@@ -2,9 +2,9 @@
 ghost use Rattle.std.specs.Prelude.{◌≡◌, ◌≤◌, ◌-◌, length, take, drop};
 ghost use Rattle.format_layout.specs.Layouts.{fields_of, field_of};
 ghost use Rattle.format_layout.specs.packed.Rows.{unpack};
-ghost use Rattle.card_field.specs.needing.Needs.{is_blank, second_at, second_by, other_second, needed_on, needed_after};
+ghost use Rattle.card_field.specs.needing.Needs.{second_at, second_by, other_second, needed_on, needed_after};
 
-use format_layout::{Field, Found, fields};
+use format_layout::{Field, fields};
 use value_text::text;
 
 // The columns of a field, as a part of the card.
@@ -15,24 +15,13 @@ pub fn columns(card: &[u8], first: usize, last: usize) -> &[u8]
     &card[first - 1..last]
 }
 
-// Whether columns are all blank.
-fn is_blank(s: &[u8]) -> bool
-    ensures { result ≡ is_blank s.now }
-{
-    text::text_end(s) == 0
-}
-
 // Whether a field belongs to the second set and is not blank.
+#[tactic(auto, unfolding(crate::specs::needing::Needs::is_blank, crate::specs::needing::Needs::columns_of))]
 fn second_at(card: &[u8], f: Field) -> bool
     requires { (1 ≤ f.first) × (f.first ≤ f.last) × (f.last ≤ length card.now) }
     ensures { result ≡ second_at card.now f }
 {
-    if !f.second {
-        return false;
-    }
-    let first = f.first;
-    let last = f.last;
-    !is_blank(columns(card, first, last))
+    f.second && text::text_end(columns(card, f.first, f.last)) != 0
 }
 
 // The same of the field with a number; false where there is none.
@@ -40,11 +29,10 @@ fn second_by(card: &[u8], layout: usize, number: usize) -> bool
     requires { length card.now ≡ 80 }
     ensures { result ≡ second_by card.now (field_of layout number) }
 {
-    let found = fields::field_of(layout, number);
-    let Found::Is(f) = found else {
-        return false;
-    };
-    second_at(card, f)
+    match fields::field_of(layout, number) {
+        Some(f) => second_at(card, f),
+        None => false,
+    }
 }
 
 // Whether the second set has a field that is not blank, other than the one with a number: its own columns would be blank.
@@ -52,29 +40,16 @@ fn other_second(card: &[u8], layout: usize, number: usize) -> bool
     requires { length card.now ≡ 80 }
     ensures { result ≡ other_second card.now number 1 (fields_of layout) }
 {
-    let count = fields::fields_in(layout);
-    let mut n = 0;
-    while n < count {
-        n += 1;
-        if (n != number) & second_by(card, layout, n) {
-            return true;
-        }
-    }
-    false
+    (1..=fields::fields_in(layout)).any(|n| n != number && second_by(card, layout, n))
 }
 
 // Whether the field that a row holds, with its number, is needed on the card once it is blank.
+#[tactic(auto, unfolding(crate::specs::needing::Needs::needed_after))]
 pub fn needed_after(card: &[u8], layout: usize, number: usize, row: u64) -> bool
     requires { length card.now ≡ 80 }
     ensures { result ≡ needed_after layout card.now number (unpack row) }
 {
-    if !fields::is_needed(row) {
-        return false;
-    }
-    if !fields::is_second(row) {
-        return true;
-    }
-    other_second(card, layout, number)
+    fields::is_needed(row) && (!fields::is_second(row) || other_second(card, layout, number))
 }
 
 // Whether it is needed on the card as it stands: no field has the number 0, so all columns count.

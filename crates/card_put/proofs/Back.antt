@@ -12,8 +12,7 @@ use Rattle.value_text.specs.text.Texts.{text_of, printable}
 use Rattle.value_text.proofs.text.Agreed.{printable_front}
 use Rattle.base_value.specs.declared.Value.{Value}
 use Rattle.base_value.specs.declared.Value.TheVariants.{Absent, Whole, Decimal, Angle, Date, Text}
-use Rattle.base_value.specs.declared.Reading.{Reading}
-use Rattle.base_value.specs.declared.Reading.TheVariants as reading
+use Rattle.base_value.specs.declared.Unread.TheVariants as unread
 use Rattle.value_field.specs.spelling.Reading.{reading_of, misplaced_in, is_text, text_read}
 use Rattle.value_field.specs.writing.Writing.{entry_of, text_entry_of}
 use Rattle.value_field.proofs.writing.Back.{value_back, value_placed, text-read_back as field-text-back}
@@ -23,9 +22,6 @@ use Rattle.format_layout.specs.Forms.{form_numbered}
 use Rattle.format_code.specs.Codes.{code_of}
 use Rattle.format_layout.specs.ranges.Ranges.{in_range}
 use Rattle.format_layout.proofs.Numbers.{found_lies}
-use Rattle.card_field.specs.declared.judging.Judged.TheVariants as judged
-use Rattle.card_field.specs.declared.FieldRead.TheVariants as read
-use Rattle.card_field.specs.declared.seeking.Sought.TheVariants as sought
 use Rattle.card_field.specs.seeking.Card.{coded, sought_of}
 use Rattle.value_text.specs.printable.Bytes.{first_bad}
 use Rattle.card_field.specs.judging.Fields.{spelling_of, value_of, held_of, judged_of, misplaced_on}
@@ -37,9 +33,13 @@ use Rattle.format_layout.specs.Columns.{width}
 use Rattle.card_put.specs.Putting.{placed_in, is_absent, within}
 use Rattle.card_field.proofs.seeking.Bytes.{none-bad, bad-none, rest_printable}
 use Rattle.card_put.proofs.Steps.{columns_wide}
+use Rattle.std.specs.Prelude.{Result, Ok, Err}
+use Rattle.base_value.specs.declared.Unread.{Unread}
+use Rattle.card_field.specs.Fields.{field_read}
+use Rattle.card_field.specs.seeking.Found.{sought}
 
 -- a card with other bytes in a field's columns, as many and printable
-module _ (s : List ℕ) (n form k : ℕ) (f : Field) (q : sought_of s n form ≡ sought.Is k f)
+module _ (s : List ℕ) (n form k : ℕ) (f : Field) (q : sought_of s n form ≡ Ok (sought k f))
     (t : List ℕ) (wide : length t ≡ width f) (printed : printable t ≡ true) where
   whole : length s ≡ 80
   whole = (found-there s n form k f q).whole
@@ -75,7 +75,7 @@ module _ (s : List ℕ) (n form k : ℕ) (f : Field) (q : sought_of s n form ≡
       (both t (drop (width f) (drop (f.first - 1) s)) printed (rest_printable (width f) (drop (f.first - 1) s) (rest_printable (f.first - 1) s p)))
 
   -- the field is found again
-  pub still_there : sought_of (placed_in f s t) n form ≡ sought.Is k f
+  pub still_there : sought_of (placed_in f s t) n form ≡ Ok (sought k f)
   still_there =
       sought_coded (placed_in f s t) n form (λ z. omega (arith, still_whole)) still_whole (first_bad (placed_in f s t)) refl
       (omega (arith, none-bad (placed_in f s t) still_printable, still_whole))
@@ -95,7 +95,7 @@ module _ (s : List ℕ) (n form k : ℕ) (f : Field) (q : sought_of s n form ≡
   now_placed = ap (misplaced_in (spelling_of f.kind (form_numbered form))) now_holds
 
 -- a value in its range, held against its field, is itself
-held-again : (needed : Bool) (f : Field) (v : Value) → is_absent v ≡ false → holds_text (judged.Is v) ≡ false → within f v ≡ true → value_of needed f v ≡ judged.Is v
+held-again : (needed : Bool) (f : Field) (v : Value) → is_absent v ≡ false → holds_text (Ok v) ≡ false → within f v ≡ true → value_of needed f v ≡ Ok v
 unfolding value_of holds_text
 held-again needed f Absent a x h = absurd (true≢false a)
 held-again needed f (Whole z) a x h = rw h
@@ -105,9 +105,9 @@ held-again needed f (Date d) a x h = refl
 held-again needed f (Text c) a x h = absurd (true≢false x)
 
 -- a value that was put into a field is read from it, and is not misplaced
-pub value_read_back : (s : List ℕ) (n form k : ℕ) (f : Field) → sought_of s n form ≡ sought.Is k f → (v : Value) (t : List ℕ)
-    → entry_of (spelling_of f.kind (form_numbered form)) (width f) v ≡ agreed t → within f v ≡ true → is_absent v ≡ false → holds_text (judged.Is v) ≡ false
-    → field_reading (placed_in f s t) n form ≡ read.Is v false
+pub value_read_back : (s : List ℕ) (n form k : ℕ) (f : Field) → sought_of s n form ≡ Ok (sought k f) → (v : Value) (t : List ℕ)
+    → entry_of (spelling_of f.kind (form_numbered form)) (width f) v ≡ agreed t → within f v ≡ true → is_absent v ≡ false → holds_text (Ok v) ≡ false
+    → field_reading (placed_in f s t) n form ≡ Ok (field_read v false)
 unfolding answered_of held_of judged_of
 value_read_back s n form k f q v t e h a x =
     let sp = spelling_of f.kind (form_numbered form) in
@@ -121,27 +121,27 @@ value_read_back s n form k f q v t e h a x =
     ∙ ap (answered_of f false) (held-again (needed_on k card f) f v a x h)
 
 -- need and range do not turn a text into none
-texts_alike : (needed : Bool) (f : Field) (r : Reading) → holds_text (held_of needed f r) ≡ is_text r
+texts_alike : (needed : Bool) (f : Field) (r : Result Value Unread) → holds_text (held_of needed f r) ≡ is_text r
 unfolding held_of value_of holds_text is_text
-texts_alike needed f reading.Malformed = refl
-texts_alike needed f reading.OutOfRange = refl
-texts_alike needed f (reading.Held Absent) = go needed
+texts_alike needed f (Err unread.Malformed) = refl
+texts_alike needed f (Err unread.OutOfRange) = refl
+texts_alike needed f (Ok Absent) = go needed
   where
-    go : (b : Bool) → holds_text (cond b (judged.Not 11) (judged.Is Absent)) ≡ false
+    go : (b : Bool) → holds_text (cond b (Err 11) (Ok Absent)) ≡ false
     go true = refl
     go false = refl
-texts_alike needed f (reading.Held (Whole z)) = go (in_range f.range z)
+texts_alike needed f (Ok (Whole z)) = go (in_range f.range z)
   where
-    go : (b : Bool) → holds_text (cond b (judged.Is (Whole z)) (judged.Not 10)) ≡ false
+    go : (b : Bool) → holds_text (cond b (Ok (Whole z)) (Err 10)) ≡ false
     go true = refl
     go false = refl
-texts_alike needed f (reading.Held (Decimal d)) = refl
-texts_alike needed f (reading.Held (Angle z)) = refl
-texts_alike needed f (reading.Held (Date d)) = refl
-texts_alike needed f (reading.Held (Text c)) = refl
+texts_alike needed f (Ok (Decimal d)) = refl
+texts_alike needed f (Ok (Angle z)) = refl
+texts_alike needed f (Ok (Date d)) = refl
+texts_alike needed f (Ok (Text c)) = refl
 
 -- a text that was put into a field is the text handed back
-pub text-read_back : (s : List ℕ) (n form k : ℕ) (f : Field) → sought_of s n form ≡ sought.Is k f → (x t : List ℕ)
+pub text-read_back : (s : List ℕ) (n form k : ℕ) (f : Field) → sought_of s n form ≡ Ok (sought k f) → (x t : List ℕ)
     → text_entry_of (spelling_of f.kind (form_numbered form)) (width f) x ≡ agreed t → field_text (placed_in f s t) n form ≡ x
 unfolding field_text text_on judged_of text_read
 text-read_back s n form k f q x t e =

@@ -2,22 +2,16 @@
 use Prim.Native.Nat.{ℕ, ◌-◌, ◌≤◌}
 use native.Mathlib.Omega.{arith}
 use mathlib.Core.Path.{◌≡◌, refl, sym, ap, ◌∙◌}
-use mathlib.Core.List.{List, [], ◌∷◌}
-use mathlib.Core.Option.{Option, none, some}
+use mathlib.Core.List.{List, []}
 use mathlib.Core.Bool.{Bool, true, false, ◌&&◌, true≢false, false≢true}
 use lib.ListN.{length, take, drop, length-drop}
 use lib.Seq.{length-take-le}
 use lib.Dec.{T}
 use lib.IntN.{ℤ, pos, negsuc}
 use borrow.Rule.Slice.PartMut.{put_mid, put_same}
-use denote.Enum.Declared.{tag_of}
-use types.Run.{OneOf, miss}
-use Rattle.base_refusal.specs.declared.Written.{Written}
-use Rattle.base_refusal.specs.declared.Written.TheVariants as written
-use Rattle.base_digits.specs.digits.Columns.{Entry, agreed, refused, entered_in, room_of}
-use Rattle.base_digits.specs.digits.Columns.{answer_of as written_of}
+use Rattle.base_refusal.specs.declared.Unwritten.TheVariants as unwritten
+use Rattle.base_digits.specs.digits.Columns.{Entry, agreed, refused, entered_in, room_of, answer_of as written_of}
 use Rattle.value_number.specs.number_entry.Spelling.{decimal_in}
-use Rattle.base_value.specs.contracts.Value.{the_type}
 use Rattle.base_value.specs.declared.Value.{Value}
 use Rattle.base_value.specs.declared.Value.TheVariants.{Absent, Whole, Decimal, Angle, Date, Text}
 use Rattle.value_field.specs.declared.spelling.Spelling.{Spelling}
@@ -27,7 +21,7 @@ use Rattle.format_layout.specs.declared.Kind.{Kind}
 use Rattle.format_layout.specs.declared.Kind.TheVariants as kind
 use Rattle.format_layout.specs.declared.Range.{Range}
 use Rattle.format_layout.specs.declared.Range.TheVariants.{Any, AtLeast, Between, OneOf as OneOfThree}
-use Rattle.format_layout.specs.Columns.{ranged}
+use Rattle.format_layout.specs.Columns.{ranged, width}
 use Rattle.format_layout.specs.declared.Field.{Field}
 use Rattle.format_layout.specs.declared.Form.{Form}
 use Rattle.format_layout.specs.Forms.{form_numbered}
@@ -37,69 +31,51 @@ use Rattle.format_layout.proofs.Numbers.{found-ranged}
 use Rattle.card_field.proofs.seeking.Steps.{found-there}
 use Rattle.card_field.proofs.Steps.{found-fits}
 use Rattle.base_refusal.specs.declared.Refusal.{Refusal}
-use Rattle.card_field.specs.declared.seeking.Sought.TheVariants as sought
 use Rattle.base_refusal.specs.Refusals.{refusal}
 use Rattle.card_field.specs.seeking.Card.{sought_of}
 use Rattle.card_field.specs.judging.Fields.{spelling_of}
-use Rattle.card_put.specs.declared.Entered.{Entered}
-use Rattle.card_put.specs.declared.Entered.TheVariants.{Refused}
 use Rattle.card_put.specs.Putting.{Putting, stays, answer_of, left_by, came_of, placed_in, is_absent, within, is_other, by_entry, value_put, value_at, text_at, putting_of, putting_text_of}
 use Rattle.card_field.specs.needing.Needs.{needed_after}
-use Rattle.format_layout.specs.Columns.{width}
-
--- values that are there, and values that have no range
-pub present : (v : Value) → OneOf (1 ∷ 2 ∷ 3 ∷ 4 ∷ 5 ∷ []) (tag_of the_type v) → is_absent v ≡ false
-present Absent h = absurd (miss (1 ∷ 2 ∷ 3 ∷ 4 ∷ 5 ∷ []) 0 tt h)
-present (Whole z) h = refl
-present (Decimal d) h = refl
-present (Angle z) h = refl
-present (Date d) h = refl
-present (Text c) h = refl
-
-pub unranged : (f : Field) (v : Value) → OneOf (0 ∷ 2 ∷ 3 ∷ 4 ∷ 5 ∷ []) (tag_of the_type v) → within f v ≡ true
-unranged f Absent h = refl
-unranged f (Whole z) h = absurd (miss (0 ∷ 2 ∷ 3 ∷ 4 ∷ 5 ∷ []) 1 tt h)
-unranged f (Decimal d) h = refl
-unranged f (Angle z) h = refl
-unranged f (Date d) h = refl
-unranged f (Text c) h = refl
+use Rattle.std.specs.Prelude.{Result, Ok, Err, ⊤, Option, None, Some}
+use Rattle.base_refusal.specs.declared.Unwritten.{Unwritten}
+use Rattle.card_field.specs.seeking.Found.{sought}
 
 -- writing a field's columns puts the entry on the card
-came_answer : (s : List ℕ) (why : Written) → answer_of (came_of [] why) ≡ answer_of (came_of s why)
+came_answer : (s : List ℕ) (why : Result ⊤ Unwritten) → answer_of (came_of [] why) ≡ answer_of (came_of s why)
 unfolding came_of
-came_answer s written.Done = refl
-came_answer s written.Unprintable = refl
-came_answer s written.Malformed = refl
-came_answer s written.OutOfRange = refl
-came_answer s written.OtherKind = refl
-came_answer s written.NoRoom = refl
+came_answer s (Ok _) = refl
+came_answer s (Err unwritten.Unprintable) = refl
+came_answer s (Err unwritten.Malformed) = refl
+came_answer s (Err unwritten.OutOfRange) = refl
+came_answer s (Err unwritten.OtherKind) = refl
+came_answer s (Err unwritten.NoRoom) = refl
 
-came_left : (s : List ℕ) (why : Written) → s ≡ left_by (came_of s why) s
+came_left : (s : List ℕ) (why : Result ⊤ Unwritten) → s ≡ left_by (came_of s why) s
 unfolding came_of
-came_left s written.Done = refl
-came_left s written.Unprintable = refl
-came_left s written.Malformed = refl
-came_left s written.OutOfRange = refl
-came_left s written.OtherKind = refl
-came_left s written.NoRoom = refl
+came_left s (Ok _) = refl
+came_left s (Err unwritten.Unprintable) = refl
+came_left s (Err unwritten.Malformed) = refl
+came_left s (Err unwritten.OutOfRange) = refl
+came_left s (Err unwritten.OtherKind) = refl
+came_left s (Err unwritten.NoRoom) = refl
 
 pub columns_wide : (s : List ℕ) (at last : ℕ) → at ≤ last → last ≤ length s → length (take (last - at) (drop at s)) ≡ last - at
 columns_wide s at last h g = length-take-le (last - at) (drop at s) (rw (length-drop at s) (omega arith))
 
-put_entry : (f : Field) (s : List ℕ) (e : Entry) (r : Written) (a : Entered) (t : List ℕ) → a ≡ answer_of (came_of [] r) → r ≡ written_of e
+put_entry : (f : Field) (s : List ℕ) (e : Entry) (r : Result ⊤ Unwritten) (a : Result ⊤ Refusal) (t : List ℕ) → a ≡ answer_of (came_of [] r) → r ≡ written_of e
     → t ≡ entered_in e (take (width f) (drop (f.first - 1) s))
     → (a ≡ answer_of (by_entry f s e)) × (put_mid (f.first - 1) (width f) s t ≡ left_by (by_entry f s e) s)
 unfolding by_entry placed_in came_of
 put_entry f s (agreed u) r a t p q h = (p ∙ ap (λ x. answer_of (came_of [] x)) q, ap (put_mid (f.first - 1) (width f) s) h)
 put_entry f s (refused why) r a t p q h = (
-  p ∙ ap (λ x. answer_of (came_of [] x)) q ∙ came_answer s why,
-  ap (put_mid (f.first - 1) (width f) s) h ∙ put_same (f.first - 1) (width f) s ∙ came_left s why,
+  p ∙ ap (λ x. answer_of (came_of [] x)) q ∙ came_answer s (Err why),
+  ap (put_mid (f.first - 1) (width f) s) h ∙ put_same (f.first - 1) (width f) s ∙ came_left s (Err why),
 )
 
 -- the same with the field's parts one by one, of whatever is entered by a spelling and a width
 pub put_parts : (e : Spelling → ℕ → Entry) (f : Field) (form : Form) (s : List ℕ) → f.first ≤ f.last → f.last ≤ length s
     → (first last : ℕ) → first ≡ f.first → last ≡ f.last → (d : Kind) → d ≡ f.kind → (x : Spelling) → x ≡ spelling_of d form
-    → (r : Written) (a : Entered) (t : List ℕ) → a ≡ answer_of (came_of [] r)
+    → (r : Result ⊤ Unwritten) (a : Result ⊤ Refusal) (t : List ℕ) → a ≡ answer_of (came_of [] r)
     → r ≡ written_of (e x (length (take (last - (first - 1)) (drop (first - 1) s))))
     → t ≡ entered_in (e x (length (take (last - (first - 1)) (drop (first - 1) s)))) (take (last - (first - 1)) (drop (first - 1) s))
     → (a ≡ answer_of (by_entry f s (e (spelling_of f.kind form) (width f))))
@@ -120,8 +96,8 @@ any_range (OneOfThree a b c) z h = absurd (false≢true h)
 
 room_kind : (o : Option (List ℕ)) → is_other (room_of o) ≡ false
 unfolding is_other
-room_kind (some t) = refl
-room_kind none = refl
+room_kind (Some t) = refl
+room_kind None = refl
 
 is_true : (b : Bool) → T b → b ≡ true
 is_true true t = refl
@@ -148,12 +124,11 @@ absent_taken spelled.Easting w = refl
 other_kind : (f : Field) (s : List ℕ) (e : Entry) → is_other e ≡ true → by_entry f s e ≡ stays (refusal 12 1 0)
 unfolding is_other by_entry came_of
 other_kind f s (agreed t) h = absurd (false≢true h)
-other_kind f s (refused written.Done) h = absurd (false≢true h)
-other_kind f s (refused written.Unprintable) h = absurd (false≢true h)
-other_kind f s (refused written.Malformed) h = absurd (false≢true h)
-other_kind f s (refused written.OutOfRange) h = absurd (false≢true h)
-other_kind f s (refused written.OtherKind) h = refl
-other_kind f s (refused written.NoRoom) h = absurd (false≢true h)
+other_kind f s (refused unwritten.Unprintable) h = absurd (false≢true h)
+other_kind f s (refused unwritten.Malformed) h = absurd (false≢true h)
+other_kind f s (refused unwritten.OutOfRange) h = absurd (false≢true h)
+other_kind f s (refused unwritten.OtherKind) h = refl
+other_kind f s (refused unwritten.NoRoom) h = absurd (false≢true h)
 
 module _ (k : ℕ) (s : List ℕ) (n : ℕ) (f : Field) (form : Form) where
   outside_number : (z : ℤ) → T (ranged f.kind f.range) → in_range f.range z ≡ false
@@ -204,15 +179,15 @@ module _ (k : ℕ) (s : List ℕ) (n : ℕ) (f : Field) (form : Form) where
       go false q = rw (q, g, h)
 
 -- the same putting under another name
-pub same_putting : {p q : Putting} (old new : List ℕ) (a : Entered) → q ≡ p → a ≡ answer_of p → new ≡ left_by p old
+pub same_putting : {p q : Putting} (old new : List ℕ) (a : Result ⊤ Refusal) → q ≡ p → a ≡ answer_of p → new ≡ left_by p old
     → (a ≡ answer_of q) × (new ≡ left_by q old)
 same_putting old new a e x y = (x ∙ sym (ap answer_of e), y ∙ sym (ap (λ p. left_by p old) e))
 
-pub stayed : {q : Putting} {r : Refusal} (old : List ℕ) (a : Entered) → q ≡ stays r → a ≡ Refused r → (a ≡ answer_of q) × (old ≡ left_by q old)
+pub stayed : {q : Putting} {r : Refusal} (old : List ℕ) (a : Result ⊤ Refusal) → q ≡ stays r → a ≡ Err r → (a ≡ answer_of q) × (old ≡ left_by q old)
 stayed old a e x = (x ∙ sym (ap answer_of e), sym (ap (λ p. left_by p old) e))
 
 -- a field that was found is where the functions below ask it to be
-module _ (s : List ℕ) (n form k : ℕ) (f : Field) (q : sought_of s n form ≡ sought.Is k f) where
+module _ (s : List ℕ) (n form k : ℕ) (f : Field) (q : sought_of s n form ≡ Ok (sought k f)) where
   pub value_is : (x : Form) → x ≡ form_numbered form → (v : Value) → putting_of s n form v ≡ value_put k s n f x v
   unfolding putting_of value_at
   value_is x g v = rw (q, g)
@@ -227,7 +202,7 @@ module _ (s : List ℕ) (n form k : ℕ) (f : Field) (q : sought_of s n form ≡
       let h = found-fits s n form k f q in
       (h.0, h.1, h.2, h.3, found-ranged k n f (found-there s n form k f q).field)
 
-module _ (s : List ℕ) (n form : ℕ) (r : Refusal) (q : sought_of s n form ≡ sought.Refused r) where
+module _ (s : List ℕ) (n form : ℕ) (r : Refusal) (q : sought_of s n form ≡ Err r) where
   pub value_stays : (v : Value) → putting_of s n form v ≡ stays r
   unfolding putting_of value_at
   value_stays v = rw q

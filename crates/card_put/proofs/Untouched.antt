@@ -6,14 +6,13 @@ use mathlib.Core.List.{List}
 use mathlib.Core.Bool.{Bool, true, false, cond, ◌&&◌}
 use lib.ListN.{length, take, drop}
 use borrow.Rule.Slice.PartMut.{same_len_mid, take_put, drop_put}
-use Rattle.base_refusal.specs.declared.Written.TheVariants as written
+use Rattle.base_refusal.specs.declared.Unwritten.TheVariants as unwritten
 use Rattle.base_digits.specs.digits.Columns.{Entry, agreed, refused}
 use Rattle.base_value.specs.declared.Value.{Value}
 use Rattle.value_field.specs.writing.Writing.{entry_of, text_entry_of}
 use Rattle.value_field.proofs.writing.Back.{value_back, text-read_back}
 use Rattle.format_layout.specs.declared.Field.{Field}
 use Rattle.format_layout.specs.declared.Form.{Form}
-use Rattle.card_field.specs.declared.seeking.Sought.TheVariants as sought
 use Rattle.base_refusal.specs.Refusals.{refusal}
 use Rattle.card_field.specs.seeking.Card.{sought_of}
 use Rattle.card_field.specs.judging.Fields.{spelling_of}
@@ -21,6 +20,8 @@ use Rattle.card_put.specs.Putting.{Putting, stays, left_by, placed_in, is_absent
 use Rattle.card_field.specs.needing.Needs.{needed_after}
 use Rattle.format_layout.specs.Columns.{width}
 use Rattle.card_put.proofs.Steps.{value_is, text-is, field_fits, columns_wide}
+use Rattle.std.specs.Prelude.{Ok}
+use Rattle.card_field.specs.seeking.Found.{sought}
 
 -- the columns before a field and behind it are the same on two cards, and so is their number
 pub record Outside (f : Field) (s t : List ℕ) : Type 0 where
@@ -44,12 +45,11 @@ module _ (s : List ℕ) (f : Field) (low : 1 ≤ f.first) (order : f.first ≤ f
   entry_outside : (e : Entry) → ((t : List ℕ) → e ≡ agreed t → length t ≡ width f) → Outside f s (left_by (by_entry f s e) s)
   unfolding by_entry came_of
   entry_outside (agreed t) h = placed_outside t (h t refl)
-  entry_outside (refused written.Done) h = same_card f s
-  entry_outside (refused written.Unprintable) h = same_card f s
-  entry_outside (refused written.Malformed) h = same_card f s
-  entry_outside (refused written.OutOfRange) h = same_card f s
-  entry_outside (refused written.OtherKind) h = same_card f s
-  entry_outside (refused written.NoRoom) h = same_card f s
+  entry_outside (refused unwritten.Unprintable) h = same_card f s
+  entry_outside (refused unwritten.Malformed) h = same_card f s
+  entry_outside (refused unwritten.OutOfRange) h = same_card f s
+  entry_outside (refused unwritten.OtherKind) h = same_card f s
+  entry_outside (refused unwritten.NoRoom) h = same_card f s
 
   value_outside : (k n : ℕ) (form : Form) (v : Value) → Outside f s (left_by (value_put k s n f form v) s)
   unfolding value_put
@@ -67,7 +67,7 @@ module _ (s : List ℕ) (f : Field) (low : 1 ≤ f.first) (order : f.first ≤ f
       go false false false = same_card f s
 
 -- a put of a value, and of a text
-module _ (s : List ℕ) (n form k : ℕ) (f : Field) (q : sought_of s n form ≡ sought.Is k f) where
+module _ (s : List ℕ) (n form k : ℕ) (f : Field) (q : sought_of s n form ≡ Ok (sought k f)) where
   pub value_untouched : (v : Value) → Outside f s (left_by (putting_of s n form v) s)
   value_untouched v =
       let h = field_fits s n form k f q in

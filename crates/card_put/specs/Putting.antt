@@ -1,9 +1,8 @@
 -- What putting a value or a text into a field of a card answers, and what the card's columns then hold.
-use Rattle.std.specs.Prelude.{ℕ, ◌-◌, List, ◌++◌, Bool, true, false, cond, ◌&&◌, take, drop}
-use Rattle.base_refusal.specs.declared.Written.{Written}
-use Rattle.base_refusal.specs.declared.Written.TheVariants as written
+use Rattle.std.specs.Prelude.{ℕ, ◌-◌, List, ◌++◌, Bool, true, false, cond, ◌&&◌, take, drop, Result, Ok, Err, ⊤}
+use Rattle.base_refusal.specs.declared.Unwritten.TheVariants as unwritten
 use Rattle.base_digits.specs.digits.Columns.{Entry, agreed, refused}
-use Rattle.base_refusal.specs.Refusals.{refusal_of}
+use Rattle.base_refusal.specs.Refusals.{refusal_of, refusal, no_refusal}
 use Rattle.base_value.specs.declared.Value.{Value}
 use Rattle.base_value.specs.declared.Value.TheVariants.{Absent, Whole, Decimal, Angle, Date, Text}
 use Rattle.value_field.specs.writing.Writing.{entry_of, text_entry_of}
@@ -12,24 +11,21 @@ use Rattle.format_layout.specs.declared.Form.{Form}
 use Rattle.format_layout.specs.Forms.{form_numbered}
 use Rattle.format_layout.specs.ranges.Ranges.{in_range}
 use Rattle.base_refusal.specs.declared.Refusal.{Refusal}
-use Rattle.card_field.specs.declared.seeking.Sought.{Sought}
-use Rattle.card_field.specs.declared.seeking.Sought.TheVariants as sought
-use Rattle.base_refusal.specs.Refusals.{refusal}
 use Rattle.card_field.specs.seeking.Card.{sought_of}
 use Rattle.card_field.specs.judging.Fields.{spelling_of}
 use Rattle.card_field.specs.needing.Needs.{needed_after}
 use Rattle.format_layout.specs.Columns.{width}
-use Rattle.card_put.specs.declared.Entered.{Entered}
-use Rattle.card_put.specs.declared.Entered.TheVariants.{Done, Refused}
+use Rattle.base_refusal.specs.declared.Unwritten.{Unwritten}
+use Rattle.card_field.specs.seeking.Found.{Sought}
 
 -- what comes of putting: the card's new columns, or why they stay
 pub data Putting : Type 0 where
   placed : List ℕ → Putting
   stays : Refusal → Putting
 
-abbrev pub answer_of : Putting → Entered
-answer_of (placed s) = Done
-answer_of (stays r) = Refused r
+abbrev pub answer_of : Putting → Result ⊤ Refusal
+answer_of (placed s) = no_refusal
+answer_of (stays r) = Err r
 
 abbrev pub left_by : Putting → List ℕ → List ℕ
 left_by (placed s) old = s
@@ -59,26 +55,25 @@ within f (Text c) = true
 -- a value of another kind than the field
 unfoldable pub is_other : Entry → Bool
 is_other (agreed t) = false
-is_other (refused written.Done) = false
-is_other (refused written.Unprintable) = false
-is_other (refused written.Malformed) = false
-is_other (refused written.OutOfRange) = false
-is_other (refused written.OtherKind) = true
-is_other (refused written.NoRoom) = false
+is_other (refused unwritten.Unprintable) = false
+is_other (refused unwritten.Malformed) = false
+is_other (refused unwritten.OutOfRange) = false
+is_other (refused unwritten.OtherKind) = true
+is_other (refused unwritten.NoRoom) = false
 
 -- what came of writing, on a card with the columns s; what is wrong with a value or a text has no column
-unfoldable pub came_of : List ℕ → Written → Putting
-came_of s written.Done = placed s
-came_of s written.Unprintable = stays (refusal (refusal_of written.Unprintable) 1 0)
-came_of s written.Malformed = stays (refusal (refusal_of written.Malformed) 1 0)
-came_of s written.OutOfRange = stays (refusal (refusal_of written.OutOfRange) 1 0)
-came_of s written.OtherKind = stays (refusal (refusal_of written.OtherKind) 1 0)
-came_of s written.NoRoom = stays (refusal (refusal_of written.NoRoom) 1 0)
+unfoldable pub came_of : List ℕ → Result ⊤ Unwritten → Putting
+came_of s (Ok _) = placed s
+came_of s (Err unwritten.Unprintable) = stays (refusal (refusal_of (Err unwritten.Unprintable)) 1 0)
+came_of s (Err unwritten.Malformed) = stays (refusal (refusal_of (Err unwritten.Malformed)) 1 0)
+came_of s (Err unwritten.OutOfRange) = stays (refusal (refusal_of (Err unwritten.OutOfRange)) 1 0)
+came_of s (Err unwritten.OtherKind) = stays (refusal (refusal_of (Err unwritten.OtherKind)) 1 0)
+came_of s (Err unwritten.NoRoom) = stays (refusal (refusal_of (Err unwritten.NoRoom)) 1 0)
 
 -- an entry on the card
 unfoldable pub by_entry : Field → List ℕ → Entry → Putting
 by_entry f s (agreed t) = placed (placed_in f s t)
-by_entry f s (refused why) = came_of s why
+by_entry f s (refused why) = came_of s (Err why)
 
 -- in the order 12, 11, 10, 14
 unfoldable pub value_put : ℕ → List ℕ → ℕ → Field → Form → Value → Putting
@@ -87,13 +82,13 @@ value_put k s n f form v =
     (cond (is_absent v && needed_after k s n f) (stays (refusal 11 1 f.first))
     (cond (within f v) (by_entry f s (entry_of (spelling_of f.kind form) (width f) v)) (stays (refusal 10 1 0))))
 
-unfoldable pub value_at : List ℕ → ℕ → Form → Value → Sought → Putting
-value_at s n form v (sought.Refused r) = stays r
-value_at s n form v (sought.Is k f) = value_put k s n f form v
+unfoldable pub value_at : List ℕ → ℕ → Form → Value → Result Sought Refusal → Putting
+value_at s n form v (Err r) = stays r
+value_at s n form v (Ok o) = value_put o.layout s n o.field form v
 
-unfoldable pub text_at : List ℕ → Form → List ℕ → Sought → Putting
-text_at s form t (sought.Refused r) = stays r
-text_at s form t (sought.Is k f) = by_entry f s (text_entry_of (spelling_of f.kind form) (width f) t)
+unfoldable pub text_at : List ℕ → Form → List ℕ → Result Sought Refusal → Putting
+text_at s form t (Err r) = stays r
+text_at s form t (Ok o) = by_entry o.field s (text_entry_of (spelling_of o.field.kind form) (width o.field) t)
 
 -- a value into the field with a number of a card
 unfoldable pub putting_of : List ℕ → ℕ → ℕ → Value → Putting

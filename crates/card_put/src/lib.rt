@@ -12,32 +12,25 @@ ghost use Rattle.card_put.specs.Putting.{came_of, answer_of, left_by, is_absent,
 ghost use Rattle.format_layout.specs.Columns.{width};
 
 use base_refusal::{
-    MALFORMED, MISSING, NO_ROOM, OTHER_KIND, OUTSIDE, Refusal, UNPRINTABLE, Written, refuse,
+    MALFORMED, MISSING, NO_ROOM, OTHER_KIND, OUTSIDE, Refusal, UNPRINTABLE, Unwritten, refuse,
 };
 use base_value::Value;
-use card_field::seeking::Way;
 use card_field::{judging, needing, seeking};
 use format_layout::{Form, fields, ranges};
 use value_field::writing;
 
-// The answer to an entry; unless it is done the card is as it was.
-#[derive(Clone, Copy)]
-pub enum Entered {
-    Done,
-    Refused(Refusal),
-}
-
 // What came of writing a field's columns, as the answer for its card.
-fn answer_for(written: Written) -> Entered
+#[tactic(auto, unfolding(crate::specs::Putting::came_of))]
+fn answer_for(written: Result<(), Unwritten>) -> Result<(), Refusal>
     ensures { result ≡ answer_of (came_of [] written) }
 {
     match written {
-        Written::Done => Entered::Done,
-        Written::Unprintable => Entered::Refused(refuse(UNPRINTABLE, 1, 0)),
-        Written::Malformed => Entered::Refused(refuse(MALFORMED, 1, 0)),
-        Written::OutOfRange => Entered::Refused(refuse(OUTSIDE, 1, 0)),
-        Written::OtherKind => Entered::Refused(refuse(OTHER_KIND, 1, 0)),
-        Written::NoRoom => Entered::Refused(refuse(NO_ROOM, 1, 0)),
+        Ok(()) => Ok(()),
+        Err(Unwritten::Unprintable) => Err(refuse(UNPRINTABLE, 1, 0)),
+        Err(Unwritten::Malformed) => Err(refuse(MALFORMED, 1, 0)),
+        Err(Unwritten::OutOfRange) => Err(refuse(OUTSIDE, 1, 0)),
+        Err(Unwritten::OtherKind) => Err(refuse(OTHER_KIND, 1, 0)),
+        Err(Unwritten::NoRoom) => Err(refuse(NO_ROOM, 1, 0)),
     }
 }
 
@@ -45,7 +38,7 @@ fn answer_for(written: Written) -> Entered
 fn is_absent(v: Value) -> bool
     ensures { result ≡ is_absent v }
 {
-    if let Value::Absent = v { true } else { false }
+    matches!(v, Value::Absent)
 }
 
 // Whether a value lies in its field's range.
@@ -59,7 +52,7 @@ fn is_within(row: u64, v: Value) -> bool
 }
 
 // Writes a value into its field's columns.
-fn write_value(card: &mut [u8], row: u64, form: Form, v: Value) -> Entered
+fn write_value(card: &mut [u8], row: u64, form: Form, v: Value) -> Result<(), Refusal>
     requires { (1 ≤ (unpack row).first) × ((unpack row).first ≤ (unpack row).last) × ((unpack row).last ≤ length card.old) }
     ensures answer { result ≡ answer_of (by_entry (unpack row) card.old (entry_of (spelling_of (unpack row).kind form) (width (unpack row)) v)) }
     ensures card { card.new ≡ left_by (by_entry (unpack row) card.old (entry_of (spelling_of (unpack row).kind form) (width (unpack row)) v)) card.old }
@@ -70,8 +63,8 @@ fn write_value(card: &mut [u8], row: u64, form: Form, v: Value) -> Entered
     answer_for(writing::write(&mut card[at..last], spelling, v))
 }
 
-// Writes a text into its field's columns.
-fn write_text(card: &mut [u8], row: u64, form: Form, text: &[u8]) -> Entered
+// Writes a text into its field's columns. What is written is lent a part of the card, so no closure stands for the two.
+fn write_text(card: &mut [u8], row: u64, form: Form, text: &[u8]) -> Result<(), Refusal>
     requires { (1 ≤ (unpack row).first) × ((unpack row).first ≤ (unpack row).last) × ((unpack row).last ≤ length card.old) }
     ensures answer { result ≡ answer_of (by_entry (unpack row) card.old (text_entry_of (spelling_of (unpack row).kind form) (width (unpack row)) text.now)) }
     ensures card { card.new ≡ left_by (by_entry (unpack row) card.old (text_entry_of (spelling_of (unpack row).kind form) (width (unpack row)) text.now)) card.old }
@@ -83,41 +76,49 @@ fn write_text(card: &mut [u8], row: u64, form: Form, text: &[u8]) -> Entered
 }
 
 // Enters a value into a field that was found.
-fn enter(card: &mut [u8], layout: usize, number: usize, row: u64, form: Form, v: Value) -> Entered
+fn enter(
+    card: &mut [u8],
+    layout: usize,
+    number: usize,
+    row: u64,
+    form: Form,
+    v: Value,
+) -> Result<(), Refusal>
     requires { (length card.old ≡ 80) × (1 ≤ (unpack row).first) × ((unpack row).first ≤ (unpack row).last) × ((unpack row).last ≤ 80)
         × T (ranged (unpack row).kind (unpack row).range) }
     ensures answer { result ≡ answer_of (value_put layout card.old number (unpack row) form v) }
     ensures card { card.new ≡ left_by (value_put layout card.old number (unpack row) form v) card.old }
 {
     if !is_within(row, v) {
-        return Entered::Refused(refuse(OUTSIDE, 1, 0));
+        return Err(refuse(OUTSIDE, 1, 0));
     }
     if is_absent(v) & needing::needed_after(card, layout, number, row) {
-        return Entered::Refused(refuse(MISSING, 1, fields::first_of(row)));
+        return Err(refuse(MISSING, 1, fields::first_of(row)));
     }
     write_value(card, row, form, v)
 }
 
 // Puts a value into the field with a number of a card, its coordinates in the form that is given.
-pub fn put(card: &mut [u8], number: usize, form: usize, v: Value) -> Entered
+pub fn put(card: &mut [u8], number: usize, form: usize, v: Value) -> Result<(), Refusal>
     ensures answer { result ≡ answer_of (putting_of card.old number form v) }
     ensures card { card.new ≡ left_by (putting_of card.old number form v) card.old }
 {
-    let way = seeking::seek(card, number, form);
-    match way {
-        Way::Refused(r) => Entered::Refused(r),
-        Way::At(k, row) => enter(card, k, number, row, format_layout::form_numbered(form), v),
-    }
+    let found = seeking::seek(card, number, form)?;
+    enter(
+        card,
+        found.layout,
+        number,
+        found.row,
+        format_layout::form_numbered(form),
+        v,
+    )
 }
 
 // Puts a text into the field with a number of a card.
-pub fn put_text(card: &mut [u8], number: usize, form: usize, text: &[u8]) -> Entered
+pub fn put_text(card: &mut [u8], number: usize, form: usize, text: &[u8]) -> Result<(), Refusal>
     ensures answer { result ≡ answer_of (putting_text_of card.old number form text.now) }
     ensures card { card.new ≡ left_by (putting_text_of card.old number form text.now) card.old }
 {
-    let way = seeking::seek(card, number, form);
-    match way {
-        Way::Refused(r) => Entered::Refused(r),
-        Way::At(_, row) => write_text(card, row, format_layout::form_numbered(form), text),
-    }
+    let found = seeking::seek(card, number, form)?;
+    write_text(card, found.row, format_layout::form_numbered(form), text)
 }

@@ -8,23 +8,12 @@ use base_refusal::{EMPTY, ODD_LENGTH, Refusal, UNKNOWN, refuse};
 use format_code::Code;
 use format_layout::{CARD, CODE, label};
 
-// The answer to opening a card.
-#[derive(Clone, Copy)]
-pub enum Opened {
-    Done,
-    Refused(Refusal),
-}
-
 // Writes a code to the front of a card.
 fn lay_code(card: &mut [u8], code: &[u8])
     requires { length code.now ≤ length card.old }
     ensures { card.new ≡ code.now ++ drop (length code.now) card.old }
 {
-    let mut i = 0;
-    while i < code.len() {
-        card[i] = code[i];
-        i += 1;
-    }
+    card[..code.len()].copy_from_slice(code);
 }
 
 // Writes a layout's label, and blanks behind it.
@@ -32,10 +21,8 @@ fn lay_label(columns: &mut [u8], layout: usize)
     requires { length (label_of layout) ≤ length columns.old }
     ensures { columns.new ≡ labelled (label_of layout) (length columns.old) }
 {
-    let mut i = 0;
-    while i < columns.len() {
-        columns[i] = label::label_byte(layout, i);
-        i += 1;
+    for (i, column) in columns.iter_mut().enumerate() {
+        *column = label::label_byte(layout, i);
     }
 }
 
@@ -58,26 +45,26 @@ fn lay_passed(card: &mut [u8], code: &[u8])
 }
 
 // Opens a card: its code, the label of a read code, and blanks, whatever stood there.
-pub fn open(card: &mut [u8], code: &[u8]) -> Opened
+pub fn open(card: &mut [u8], code: &[u8]) -> Result<(), Refusal>
     ensures answer { result ≡ opened_of code.now (length card.old) }
     ensures card { card.new ≡ opened_card code.now card.old }
 {
     if card.len() == 0 {
-        return Opened::Refused(refuse(EMPTY, 0, 0));
+        return Err(refuse(EMPTY, 0, 0));
     }
     if card.len() != CARD {
-        return Opened::Refused(refuse(ODD_LENGTH, 0, 0));
+        return Err(refuse(ODD_LENGTH, 0, 0));
     }
     let known = format_code::code_of(code);
     match known {
-        Code::Unknown => Opened::Refused(refuse(UNKNOWN, 1, 1)),
+        Code::Unknown => Err(refuse(UNKNOWN, 1, 1)),
         Code::Passed => {
             lay_passed(card, code);
-            Opened::Done
+            Ok(())
         }
         Code::Read(k) => {
             lay_read(card, code, k);
-            Opened::Done
+            Ok(())
         }
     }
 }

@@ -14,8 +14,7 @@ use Rattle.base_digits.specs.digits.Figures.{is_digit, blanks, unpadded, leading
 use Rattle.value_number.specs.number.Reading.{counted_of, point_of, figures_of, held_of, sign_of, number_of}
 use Rattle.base_value.specs.Reading.{offence_of}
 use Rattle.base_value.specs.declared.Value.TheVariants.{Absent, Whole, Decimal, Angle, Date, Text}
-use Rattle.base_value.specs.declared.Reading.{Reading}
-use Rattle.base_value.specs.declared.Reading.TheVariants.{Held, Malformed, OutOfRange}
+use Rattle.base_value.specs.declared.Unread.TheVariants.{Malformed, OutOfRange}
 use Rattle.format_layout.specs.declared.Range.TheVariants as range
 use Rattle.format_layout.specs.ranges.Ranges.{in_range}
 use Rattle.value_text.specs.text.Texts.{text_end, text_of}
@@ -26,6 +25,9 @@ use Rattle.value_number.proofs.shapes.Small.{figures_small}
 use Rattle.value_number.proofs.shapes.Telling.{shape_held}
 use Rattle.card_screen.specs.Machine.{class_of, signed, pointed, counted, decimal_by, ends, first_by, later_by, step_by, step as stepped, runs}
 use Rattle.card_screen.proofs.Steps.{figure-is}
+use Rattle.std.specs.Prelude.{Result, Ok, Err}
+use Rattle.base_value.specs.declared.Unread.{Unread}
+use Rattle.base_value.specs.declared.Value.{Value}
 
 -- one step by the classes of a byte
 abbrev pub by : Bool → Bool → Bool → Bool → ℕ → ℕ
@@ -246,17 +248,17 @@ unfolding in_range
 any-whole (pos n) = refl
 any-whole (negsuc n) = refl
 
-either : (v : Bool) (r : Reading) → offence_of r ≡ cond v 11 0 → fault_of false range.Any r ≡ 0
-either v (Held Absent) h = refl
-either v (Held (Whole z)) h = any-whole z
-either v (Held (Decimal d)) h = refl
-either v (Held (Angle z)) h = refl
-either v (Held (Date d)) h = refl
-either v (Held (Text c)) h = refl
-either true Malformed h = absurd (omega arith)
-either false Malformed h = absurd (omega arith)
-either true OutOfRange h = absurd (omega arith)
-either false OutOfRange h = absurd (omega arith)
+either : (v : Bool) (r : Result Value Unread) → offence_of r ≡ cond v 11 0 → fault_of false range.Any r ≡ 0
+either v (Ok Absent) h = refl
+either v (Ok (Whole z)) h = any-whole z
+either v (Ok (Decimal d)) h = refl
+either v (Ok (Angle z)) h = refl
+either v (Ok (Date d)) h = refl
+either v (Ok (Text c)) h = refl
+either true (Err Malformed) h = absurd (omega arith)
+either false (Err Malformed) h = absurd (omega arith)
+either true (Err OutOfRange) h = absurd (omega arith)
+either false (Err OutOfRange) h = absurd (omega arith)
 
 nothing_read : (s : List ℕ) → fault_of false range.Any (number_of true (take 0 s)) ≡ 0
 unfolding number_of unpadded blanks sign_of

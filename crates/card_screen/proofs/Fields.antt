@@ -9,8 +9,7 @@ use lib.ListN.{length, take, drop, replicate, length-drop}
 use lib.Seq.{length-take-le}
 use borrow.Author.Tests.{eqb-true, not-true}
 use Rattle.base_value.specs.declared.Value.TheVariants.{Absent, Whole, Decimal, Angle, Date, Text}
-use Rattle.base_value.specs.declared.Reading.{Reading}
-use Rattle.base_value.specs.declared.Reading.TheVariants.{Held, Malformed, OutOfRange}
+use Rattle.base_value.specs.declared.Unread.TheVariants.{Malformed, OutOfRange}
 use Rattle.value_field.specs.spelling.Reading.{number_in, pushed_left, whole_reading, reading_of, misplaced_in}
 use Rattle.format_layout.specs.declared.Kind.{Kind}
 use Rattle.format_layout.specs.declared.Kind.TheVariants as kind
@@ -22,7 +21,6 @@ use Rattle.format_layout.specs.Layouts.{fields_of, is_any}
 use Rattle.format_layout.specs.Columns.{width, wide_as, ranged}
 use Rattle.format_layout.specs.ranges.Ranges.{in_range}
 use Rattle.card_field.specs.needing.Needs.{columns_of, any_second, needed_on}
-use Rattle.card_field.specs.declared.judging.Judged.TheVariants.{Is, Not}
 use Rattle.card_field.specs.judging.Fields.{spelling_of, value_of, held_of, number_of, judged_of, misplaced_on}
 use Rattle.card_screen.specs.Machine.{ends, runs}
 use Rattle.card_screen.specs.Roles.{whole_roles, roles_for, roles_in}
@@ -31,34 +29,37 @@ use Rattle.card_screen.proofs.Steps.{runs-take, afresh}
 use Rattle.card_screen.proofs.Whole.{fits_good, fault_of, good, whole_tried}
 use Rattle.card_screen.proofs.Decimals.{decimal_run, decimal_good}
 use Rattle.card_screen.proofs.Texts.{text_good, needed_good}
+use Rattle.std.specs.Prelude.{Result, Ok, Err}
+use Rattle.base_value.specs.declared.Unread.{Unread}
+use Rattle.base_value.specs.declared.Value.{Value}
 
 -- the offence of a field that is needed as its row says, and one that is needed only with its set
-fault_is : (needed : Bool) (f : Field) (r : Reading) → number_of (held_of needed f r) ≡ fault_of needed f.range r
+fault_is : (needed : Bool) (f : Field) (r : Result Value Unread) → number_of (held_of needed f r) ≡ fault_of needed f.range r
 unfolding held_of value_of
-fault_is needed f Malformed = refl
-fault_is needed f OutOfRange = refl
-fault_is true f (Held Absent) = refl
-fault_is false f (Held Absent) = refl
-fault_is needed f (Held (Whole z)) = go (in_range f.range z)
+fault_is needed f (Err Malformed) = refl
+fault_is needed f (Err OutOfRange) = refl
+fault_is true f (Ok Absent) = refl
+fault_is false f (Ok Absent) = refl
+fault_is needed f (Ok (Whole z)) = go (in_range f.range z)
   where
-    go : (b : Bool) → number_of (cond b (Is (Whole z)) (Not 10)) ≡ cond b 0 10
+    go : (b : Bool) → number_of (cond b (Ok (Whole z)) (Err 10)) ≡ cond b 0 10
     go true = refl
     go false = refl
-fault_is needed f (Held (Decimal d)) = refl
-fault_is needed f (Held (Angle z)) = refl
-fault_is needed f (Held (Date d)) = refl
-fault_is needed f (Held (Text c)) = refl
+fault_is needed f (Ok (Decimal d)) = refl
+fault_is needed f (Ok (Angle z)) = refl
+fault_is needed f (Ok (Date d)) = refl
+fault_is needed f (Ok (Text c)) = refl
 
-milder : (needed x : Bool) (r : Range) (v : Reading) → fault_of needed r v ≡ 0 → fault_of (needed && x) r v ≡ 0
+milder : (needed x : Bool) (r : Range) (v : Result Value Unread) → fault_of needed r v ≡ 0 → fault_of (needed && x) r v ≡ 0
 milder true true r v h = h
-milder true false r (Held Absent) h = refl
-milder true false r (Held (Whole z)) h = h
-milder true false r (Held (Decimal d)) h = refl
-milder true false r (Held (Angle z)) h = refl
-milder true false r (Held (Date d)) h = refl
-milder true false r (Held (Text c)) h = refl
-milder true false r Malformed h = h
-milder true false r OutOfRange h = h
+milder true false r (Ok Absent) h = refl
+milder true false r (Ok (Whole z)) h = h
+milder true false r (Ok (Decimal d)) h = refl
+milder true false r (Ok (Angle z)) h = refl
+milder true false r (Ok (Date d)) h = refl
+milder true false r (Ok (Text c)) h = refl
+milder true false r (Err Malformed) h = h
+milder true false r (Err OutOfRange) h = h
 milder false x r v h = h
 
 -- what is known of a field's columns
@@ -88,7 +89,7 @@ whole_fine needed r form t q l e h =
     let p = both (eqb (fault_of needed r (whole_reading (number_in false t))) 0) (not (pushed_left t)) m.1 in
     (m.0, eqb-true _ _ (is_true _ p.0), not-true _ (is_true _ p.1))
 
-decimal-any : (r : Range) (v : Reading) → is_any r ≡ true → fault_of false range.Any v ≡ 0 → fault_of false r v ≡ 0
+decimal-any : (r : Range) (v : Result Value Unread) → is_any r ≡ true → fault_of false range.Any v ≡ 0 → fault_of false r v ≡ 0
 decimal-any range.Any v e h = h
 decimal-any (range.AtLeast a) v e h = absurd (true≢false (sym e))
 decimal-any (range.Between a b) v e h = absurd (true≢false (sym e))
@@ -131,7 +132,7 @@ module _ (k : ℕ) (s : List ℕ) (whole : length s ≡ 80) (f : Field) (on : 1 
   unfolding judged_of needed_on misplaced_on
   field_fine form q h =
       let t : List ℕ = columns_of f s in
-      let reading : Reading = reading_of (spelling_of f.kind form) t in
+      let reading : Result Value Unread = reading_of (spelling_of f.kind form) t in
       let e : roles_in f ≡ roles_for f.kind f.needed f.range (length t) = ap (roles_for f.kind f.needed f.range) (sym long) in
       let m = fine f.kind f.needed f.range form t q (omega (arith, long)) (subst (λ (n : ℕ). T (wide_as f.kind n)) (sym long) wide) any
       (ap length (sym e) ∙ roles ∙ sym long) (subst (λ (l : List ℕ). T (ends (runs l t q))) e (subst (λ (z : ℕ). T (ends z)) (taken q) h)) in

@@ -6,8 +6,8 @@ use mathlib.Core.Bool.{Bool, true, false, cond, ◌&&◌, not}
 use native.Mathlib.Omega.{arith}
 use native.Mathlib.Numerals.{add-one}
 use lib.Dec.{T, eqb}
-use lib.ListN.{length, get_or, take, drop, length-append, take-append-drop, drop_of_length-le}
-use lib.Seq.{drop-drop, drop-cons}
+use lib.ListN.{length, get_or, take, drop, length-append, length-drop, take-append-drop, drop_of_length-le}
+use lib.Seq.{drop-drop, drop-cons, length-take-le}
 use borrow.Author.Tests.{eqb-true}
 use Rattle.format_layout.specs.Table.{layouts}
 use Rattle.format_layout.specs.Layouts.{layout_at, fields_of, label_of}
@@ -15,7 +15,7 @@ use Rattle.format_layout.specs.packed.Rows.{layout_count}
 use Rattle.card_screen.specs.Machine.{ends, run_to, runs}
 use Rattle.card_screen.specs.Roles.{roles_for, roles_from, plain, roles_of, word_at, sure}
 use Rattle.card_screen.proofs.Rows.{all_to, all_at, both, is_true}
-use Rattle.card_screen.proofs.Steps.{runs_append, unsure_stays}
+use Rattle.card_screen.proofs.Steps.{runs_append, runs-take, unsure_stays}
 
 abbrev pub unpacked : ℕ → ℕ → List ℕ
 unpacked zero w = []
@@ -77,9 +77,10 @@ module _ (k : ℕ) (small : k < layout_count) (is_plain : plain k ≡ true) wher
 
   module _ (s : List ℕ) (whole : length s ≡ 80) where
     -- one row more
-    pub row_more : (row q w r : ℕ) → row < 5 → w ≡ word_at (k * 5 + row) → r ≡ run_to s (row * 16) w q 16
+    pub row_more : (row q w r : ℕ) (columns : List ℕ) → row < 5 → w ≡ word_at (k * 5 + row) → columns ≡ take 16 (drop (row * 16) s)
+        → r ≡ run_to columns 0 w q 16
         → runs (drop (16 * row) (roles_of k)) (drop (16 * row) s) q ≡ runs (drop (16 * (row + 1)) (roles_of k)) (drop (16 * (row + 1)) s) r
-    row_more row q w r h e f =
+    row_more row q w r columns h e g f =
         let a : List ℕ = unpacked 16 w in
         let z : List ℕ = drop (16 * (row + 1)) (roles_of k) in
         let n : 16 * row + 16 ≡ 16 * (row + 1) = omega arith in
@@ -90,8 +91,11 @@ module _ (k : ℕ) (small : k < layout_count) (is_plain : plain k ≡ true) wher
         ∙ ap₂ (λ (x y : List ℕ). x ++ y) first (drop-drop 16 (16 * row) (roles_of k) ∙ ap (λ j. drop j (roles_of k)) n) in
         let past : drop (length a) (drop (16 * row) s) ≡ drop (16 * (row + 1)) s =
         ap (λ j. drop j (drop (16 * row) s)) (long 16 w) ∙ drop-drop 16 (16 * row) s ∙ ap (λ j. drop j s) n in
+        let here : take (length a) (drop (16 * row) s) ≡ columns =
+        ap (λ j. take j (drop (16 * row) s)) (long 16 w) ∙ ap (λ j. take 16 (drop j s)) (sym m) ∙ sym g in
+        let size : length columns ≡ 16 = ap length g ∙ length-take-le 16 (drop (row * 16) s) (omega (arith, length-drop (row * 16) s, whole)) in
         let state : runs a (drop (16 * row) s) q ≡ r =
-        ap (λ j. runs a (drop j s) q) (sym m) ∙ sym (run_list s (row * 16) w q 16 (omega (arith, whole))) ∙ sym f in
+        runs-take a (drop (16 * row) s) q ∙ ap (λ (t : List ℕ). runs a t q) here ∙ sym (run_list columns 0 w q 16 (omega (arith, size))) ∙ sym f in
         ap (λ (l : List ℕ). runs l (drop (16 * row) s) q) whole_row ∙ runs_append a z (drop (16 * row) s) q
         ∙ ap₂ (λ (t : List ℕ) (x : ℕ). runs z t x) past state
 

@@ -11,8 +11,7 @@ use borrow.Author.Tests.{eqb-true, leb-true}
 use Rattle.base_digits.specs.digits.Figures.{is_digit, blanks, unpadded, leading, behind, value_from}
 use Rattle.base_digits.specs.signs.Signs.{signed_of}
 use Rattle.base_value.specs.declared.Value.TheVariants.{Absent, Whole, Decimal, Angle, Date, Text}
-use Rattle.base_value.specs.declared.Reading.{Reading}
-use Rattle.base_value.specs.declared.Reading.TheVariants.{Held, Malformed, OutOfRange}
+use Rattle.base_value.specs.declared.Unread.TheVariants.{Malformed, OutOfRange}
 use Rattle.value_text.specs.text.Texts.{text_end, text_of}
 use Rattle.value_number.specs.number.Reading.{point_of, figures_of, held_of, sign_of, number_of}
 use Rattle.value_field.specs.spelling.Reading.{number_in, pushed_left, whole_reading}
@@ -23,6 +22,9 @@ use Rattle.card_screen.specs.Machine.{class_of, figure, ends, begins, decimal_by
 use Rattle.card_screen.specs.Roles.{from_zero, from_one, within, whole_roles}
 use Rattle.card_screen.proofs.Rows.{all_to, all_at, both, is_true, class_below}
 use Rattle.card_screen.proofs.Steps.{figure-is, unsure_never, afresh}
+use Rattle.std.specs.Prelude.{Result, Ok, Err}
+use Rattle.base_value.specs.declared.Unread.{Unread}
+use Rattle.base_value.specs.declared.Value.{Value}
 
 -- the byte of a class, where the class has only one
 abbrev byte_of : ℕ → ℕ
@@ -98,15 +100,15 @@ fits_good (r ∷ rs) ok h (b ∷ t) e q k =
     (m.0, tried (r ∷ rs) 0 ok p.1 (b ∷ t) e m.1)
 
 -- the offence of a field, by what its columns read as
-abbrev pub fault_of : Bool → Range → Reading → ℕ
-fault_of needed r Malformed = 9
-fault_of needed r OutOfRange = 10
-fault_of needed r (Held Absent) = cond needed 11 0
-fault_of needed r (Held (Whole z)) = cond (in_range r z) 0 10
-fault_of needed r (Held (Decimal d)) = 0
-fault_of needed r (Held (Angle z)) = 0
-fault_of needed r (Held (Date d)) = 0
-fault_of needed r (Held (Text c)) = 0
+abbrev pub fault_of : Bool → Range → Result Value Unread → ℕ
+fault_of needed r (Err Malformed) = 9
+fault_of needed r (Err OutOfRange) = 10
+fault_of needed r (Ok Absent) = cond needed 11 0
+fault_of needed r (Ok (Whole z)) = cond (in_range r z) 0 10
+fault_of needed r (Ok (Decimal d)) = 0
+fault_of needed r (Ok (Angle z)) = 0
+fault_of needed r (Ok (Date d)) = 0
+fault_of needed r (Ok (Text c)) = 0
 
 abbrev pub good : Bool → Range → List ℕ → Bool
 good needed r t = eqb (fault_of needed r (whole_reading (number_in false t))) 0 && not (pushed_left t)

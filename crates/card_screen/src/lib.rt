@@ -6,7 +6,7 @@
 pub mod roles;
 pub mod tables;
 
-ghost use Rattle.std.specs.Prelude.{◌<◌, ◌≤◌, ◌%◌, ◌≡◌, length};
+ghost use Rattle.std.specs.Prelude.{◌<◌, ◌%◌, ◌≡◌, length};
 ghost use Rattle.card_screen.specs.Machine.{step, run_to, ends, Built};
 ghost use Rattle.card_screen.specs.Roles.{sure};
 
@@ -40,18 +40,17 @@ fn next(table: &[u64; TABLE], state: u64, role: u64, b: u8) -> u64
 }
 
 // One row of columns, their roles a hexadecimal digit each of one number.
-fn run_row(table: &[u64; TABLE], card: &[u8], from: usize, roles: u64, state: u64) -> u64
+fn run_row(table: &[u64; TABLE], columns: &[u8], roles: u64, state: u64) -> u64
     requires built { Built table.now }
-    requires card_len { (length card.now ≡ 80) × (from ≤ 64) × (state < 64) × (state % 8 ≡ 0) }
-    ensures { (result ≡ run_to card.now from roles state 16) × (result < 64) × (result % 8 ≡ 0) }
+    requires columns_len { length columns.now ≡ 16 }
+    requires state_bound { (state < 64) × (state % 8 ≡ 0) }
+    ensures { (result ≡ run_to columns.now 0 roles state 16) × (result < 64) × (result % 8 ≡ 0) }
 {
     let mut rest = roles;
     let mut s = state;
-    let mut i = 0;
-    while i < COLUMNS {
-        s = next(table, s, rest % 16, card[from + i]);
-        rest = rest / 16;
-        i += 1;
+    for b in columns {
+        s = next(table, s, rest % 16, *b);
+        rest /= 16;
     }
     s
 }
@@ -60,7 +59,7 @@ fn run_row(table: &[u64; TABLE], card: &[u8], from: usize, roles: u64, state: u6
 fn may_end(state: u64) -> bool
     ensures { result ≡ ends state }
 {
-    (state == BLANK) | ((state == FILLED) | (state == PLACES))
+    matches!(state, BLANK | FILLED | PLACES)
 }
 
 // Whether the machine is sure that a card of a layout has no offence and no misplaced number. Which layouts it is never sure of is
@@ -77,19 +76,11 @@ pub fn is_fine(table: &[u64; TABLE], card: &[u8], layout: usize) -> bool
         return false;
     }
     let mut state = FILLED;
-    let mut row = 0;
-    while row < ROWS {
-        state = run_row(
-            table,
-            card,
-            row * COLUMNS,
-            roles::roles_at(layout * ROWS + row),
-            state,
-        );
+    for (row, columns) in card.chunks_exact(COLUMNS).enumerate() {
+        state = run_row(table, columns, roles::roles_at(layout * ROWS + row), state);
         if state == UNSURE {
             return false;
         }
-        row += 1;
     }
     may_end(state)
 }

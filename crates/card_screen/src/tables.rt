@@ -10,22 +10,17 @@ pub const TABLE: usize = 512;
 const BYTES: usize = 256;
 
 // The class of a byte, times the 16 rows that it has: 0 is a blank, 1 a sign, 2 a point, 3 to 12 are the digits, 13 is any other.
+#[tactic(auto, using(std::proofs::lemmas::Bool::Decides::nat_tests), unfolding(crate::specs::Machine::class_of))]
 fn class_of(b: u8) -> u64
     ensures { result ≡ 16 * class_of b }
 {
-    if b == BLANK {
-        return 0;
+    match b {
+        BLANK => 0,
+        b'+' | b'-' => 16,
+        b'.' => 32,
+        b'0'..=b'9' => 16 * u64::from(b - 45),
+        _ => 208,
     }
-    if (b == b'+') | (b == b'-') {
-        return 16;
-    }
-    if b == b'.' {
-        return 32;
-    }
-    if (b < b'0') | (b'9' < b) {
-        return 208;
-    }
-    16 * (b - 45) as u64
 }
 
 // The next state for each state, eight bits each, by class and role.
@@ -297,11 +292,9 @@ pub fn table() -> [u64; TABLE]
     ensures { Built result }
 {
     let mut table = [0u64; TABLE];
-    let mut i = 0;
-    while i < BYTES {
+    for i in 0..BYTES {
         table[i] = BYTES as u64 + class_of(i as u8);
         table[BYTES + i] = row_at(i as u8);
-        i += 1;
     }
     table
 }

@@ -8,12 +8,12 @@ use lib.ListN.{length}
 use borrow.Author.Tests.{eq-eqb, lt-ltb, le-ltb}
 use Rattle.base_refusal.specs.Refusals.{refusal}
 use Rattle.header_check.specs.forms.Cards.{cards_in}
-use Rattle.header_check.specs.declared.Checked.TheVariants.{Refused}
 use Rattle.header_check.specs.Refusing.{refusal_of}
 use Rattle.crew_answer.specs.Answer.{most_cards, too_many, program_refusal}
+use Rattle.std.specs.Prelude.{Err}
 
 module _ (h : List ℕ) where
-  pub refused-there : too_many h ≡ true → program_refusal h ≡ Refused (refusal 3 0 0)
+  pub refused-there : too_many h ≡ true → program_refusal h ≡ Err (refusal 3 0 0)
   unfolding program_refusal
   refused-there e = rw e
 
@@ -31,7 +31,7 @@ module _ (h : List ℕ) where
       go false = refl
 
   -- more whole cards are refused, whatever they hold
-  pub many_refused : length h % 80 ≡ 0 → most_cards < cards_in h → program_refusal h ≡ Refused (refusal 3 0 0)
+  pub many_refused : length h % 80 ≡ 0 → most_cards < cards_in h → program_refusal h ≡ Err (refusal 3 0 0)
   unfolding too_many
   many_refused whole many =
       refused-there (rw (eq-eqb (length h % 80) 0 whole, lt-ltb most_cards (cards_in h) many))

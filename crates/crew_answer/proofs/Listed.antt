@@ -7,15 +7,12 @@ use lib.ListN.{length, get_or, length-map}
 use Rattle.base_lists.specs.Laid.{laid, fitting}
 use Rattle.base_lists.proofs.Laying.{laid_at_lem, length-laid}
 use Rattle.base_refusal.specs.declared.Refusal.{Refusal}
-use Rattle.header_check.specs.declared.Checked.{Checked}
-use Rattle.header_check.specs.declared.Checked.TheVariants as checked
 use Rattle.tie_rules.specs.Faults.{faults, entry_size, entry_of, entries}
 use Rattle.tie_laws.proofs.Complete.{whole-entries}
-use Rattle.tie_check.specs.declared.Ties.{Ties}
-use Rattle.tie_check.specs.declared.Ties.TheVariants.{Found, Refused}
 use Rattle.tie_check.specs.Answer.{answer_for, list_for}
 use Rattle.crew_answer.specs.Answer.{program_refusal, answer_of, answer_to}
 use Rattle.crew_answer.specs.lines.Text.{refused_text, count_text, entry_at, entries_text, most, told, broken_text}
+use Rattle.std.specs.Prelude.{Result, Ok, Err, ⊤}
 
 entry_same : (l m : List ℕ) (i : ℕ) → ((j : ℕ) → j < entry_size * i + entry_size → get_or l j 0 ≡ get_or m j 0) → entry_at l i ≡ entry_at m i
 unfolding entry_at
@@ -45,25 +42,25 @@ told-alike l w n room size =
     within : (j : ℕ) → j < entry_size * min n most → j < fitting entry_size l w
     within j h = omega arith
 
-module _ (h : List ℕ) (t : Ties) (is : t ≡ answer_for (program_refusal h) (length (faults h))) where
+module _ (h : List ℕ) (t : Result ℕ Refusal) (is : t ≡ answer_for (program_refusal h) (length (faults h))) where
   -- the check found n faults
-  pub told-found : (n : ℕ) (l m : List ℕ) → length l ≡ most * entry_size → m ≡ list_for (program_refusal h) l (entries h) → t ≡ Found n
+  pub told-found : (n : ℕ) (l m : List ℕ) → length l ≡ most * entry_size → m ≡ list_for (program_refusal h) l (entries h) → t ≡ Ok n
       → broken_text n m ≡ answer_to h
   unfolding answer_to answer_for list_for answer_of
   told-found n l m room laid-there found = go (program_refusal h) is laid-there
     where
-      go : (x : Checked) → t ≡ answer_for x (length (faults h)) → m ≡ list_for x l (entries h) → broken_text n m ≡ answer_of x (length (faults h)) (entries h)
-      go checked.Accepted e q =
+      go : (x : Result ⊤ Refusal) → t ≡ answer_for x (length (faults h)) → m ≡ list_for x l (entries h) → broken_text n m ≡ answer_of x (length (faults h)) (entries h)
+      go (Ok _) e q =
           let k : n ≡ length (faults h) = cc (e, found) in
           rw (q, k)
           (told-alike l (entries h) (length (faults h)) room (whole-entries h ∙ ap (λ s. entry_size * s) (length-map (faults h) (entry_of h))))
-      go (checked.Refused r) e q = cc (e, found)
+      go (Err r) e q = cc (e, found)
 
   -- the check refused the header
-  pub told-refused : (r : Refusal) → t ≡ Refused r → refused_text r.number r.card r.column ≡ answer_to h
+  pub told-refused : (r : Refusal) → t ≡ Err r → refused_text r.number r.card r.column ≡ answer_to h
   unfolding answer_to answer_for answer_of
   told-refused r refused = go (program_refusal h) is
     where
-      go : (x : Checked) → t ≡ answer_for x (length (faults h)) → refused_text r.number r.card r.column ≡ answer_of x (length (faults h)) (entries h)
-      go checked.Accepted e = cc (e, refused)
-      go (checked.Refused x) e = let q : r ≡ x = cc (e, refused) in rw q
+      go : (x : Result ⊤ Refusal) → t ≡ answer_for x (length (faults h)) → refused_text r.number r.card r.column ≡ answer_of x (length (faults h)) (entries h)
+      go (Ok _) e = cc (e, refused)
+      go (Err x) e = let q : r ≡ x = cc (e, refused) in rw q

@@ -11,29 +11,29 @@ ghost use Rattle.crew_answer.specs.lines.Text.{most, longest};
 ghost use Rattle.crew_answer.specs.Answer.{too_many, program_refusal, answer_to};
 
 use crate::lines::MOST;
-use base_refusal::{TOO_MANY, refuse};
+use base_refusal::{Refusal, TOO_MANY, refuse};
 use format_layout::{CARD, FEW_CARDS};
-use tie_check::Ties;
 use tie_check::entries::ENTRY;
 
 // Room for the entries that are told.
 const ROOM: usize = MOST * ENTRY;
 
 // Whether a header has whole cards, and more of them than the program takes.
+#[tactic(auto, unfolding(crate::specs::Answer::too_many, header_check::specs::forms::Cards::cards_in))]
 fn too_many(header: &[u8]) -> bool
     ensures { result ≡ too_many header.now }
 {
-    (header.len() % CARD == 0) & (FEW_CARDS < header.len() / CARD)
+    header.len() % CARD == 0 && FEW_CARDS < header.len() / CARD
 }
 
 // The check of a header by the crew's programs, which take fewer cards than the library.
-pub fn check(header: &[u8], list: &mut [u32]) -> Ties
+pub fn check(header: &[u8], list: &mut [u32]) -> Result<usize, Refusal>
     ensures answer { result ≡ answer_for (program_refusal header.now) (length (faults header.now)) }
     ensures list { list.new
         ≡ list_for (program_refusal header.now) list.old (entries header.now) }
 {
     if too_many(header) {
-        return Ties::Refused(refuse(TOO_MANY, 0, 0));
+        return Err(refuse(TOO_MANY, 0, 0));
     }
     tie_check::check(header, list)
 }
@@ -47,8 +47,8 @@ fn tell_by(header: &[u8], list: &mut [u32; ROOM], out: &mut [u8]) -> usize
 {
     let ties = check(header, list);
     match ties {
-        Ties::Found(n) => lines::spell_broken(out, n, list),
-        Ties::Refused(r) => lines::spell_refused(out, r.number, r.card, r.column),
+        Ok(n) => lines::spell_broken(out, n, list),
+        Err(r) => lines::spell_refused(out, r.number, r.card, r.column),
     }
 }
 

@@ -1,5 +1,5 @@
 // The answer to the crew as text: refused and where, or how much is broken and each entry, a line each.
-ghost use Rattle.std.specs.Prelude.{◌≡◌, ◌+◌, ◌*◌, ◌≤◌, ◌<◌, min, length, set};
+ghost use Rattle.std.specs.Prelude.{◌≡◌, ◌+◌, ◌*◌, ◌≤◌, ◌<◌, length, set};
 ghost use Rattle.std.proofs.lemmas.List.Edits.{sets};
 ghost use Rattle.base_lists.specs.Laid.{laid};
 ghost use Rattle.tie_rules.specs.Faults.{entry_size};
@@ -29,7 +29,6 @@ fn push(out: &mut [u8], at: usize, b: u8) -> usize
 {
     if at < out.len() {
         out[at] = b;
-        return at + 1;
     }
     at + 1
 }
@@ -41,10 +40,8 @@ fn push_all(out: &mut [u8], at: usize, s: &[u8]) -> usize
     ensures next { result ≡ at + length s.now }
 {
     let mut end = at;
-    let mut i = 0;
-    while i < s.len() {
-        end = push(out, end, s[i]);
-        i += 1;
+    for b in s {
+        end = push(out, end, *b);
     }
     end
 }
@@ -75,14 +72,6 @@ fn push_spaced(out: &mut [u8], at: usize, n: u64) -> usize
     push_number(out, next, n)
 }
 
-// A number of a list, which has at most ten digits.
-fn wide(n: u32) -> u64
-    ensures same { result ≡ n }
-    ensures small { result < 10000000000 }
-{
-    n as u64
-}
-
 // Puts the line of an entry.
 fn push_line(out: &mut [u8], at: usize, card: u64, column: u64, kind: u64, vessel: u64) -> usize
     requires at_bound { at < 900000 }
@@ -107,10 +96,10 @@ fn push_entry(out: &mut [u8], at: usize, list: &[u32], i: usize) -> usize
     ensures within { result ≤ at + longest_entry }
 {
     let from = ENTRY * i;
-    let card = wide(list[from]);
-    let column = wide(list[from + 1]);
-    let kind = wide(list[from + 2]);
-    let vessel = wide(list[from + 3]);
+    let card = u64::from(list[from]);
+    let column = u64::from(list[from + 1]);
+    let kind = u64::from(list[from + 2]);
+    let vessel = u64::from(list[from + 3]);
     push_line(out, at, card, column, kind, vessel)
 }
 
@@ -122,22 +111,10 @@ fn push_entries(out: &mut [u8], at: usize, list: &[u32], k: usize) -> usize
     ensures within { result ≤ longest }
 {
     let mut end = at;
-    let mut i = 0;
-    while i < k {
+    for i in 0..k {
         end = push_entry(out, end, list, i);
-        i += 1;
     }
     end
-}
-
-// The smaller of two.
-fn least(a: usize, b: usize) -> usize
-    ensures { result ≡ min a b }
-{
-    if a < b {
-        return a;
-    }
-    b
 }
 
 // Puts how much is broken.
@@ -171,6 +148,6 @@ pub fn spell_broken(out: &mut [u8], n: usize, list: &[u32]) -> usize
     ensures within { result ≤ longest }
 {
     let counted = push_count(out, n);
-    let k = least(least(n, MOST), list.len() / ENTRY);
+    let k = n.min(MOST).min(list.len() / ENTRY);
     push_entries(out, counted, list, k)
 }

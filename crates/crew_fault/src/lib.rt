@@ -15,20 +15,9 @@ use tie_rules::keys::NO_VESSEL;
 // How many places are told one by one where there are many.
 const MOST: usize = 10;
 
-// A number that is counted from 1, 0 where there is none.
-fn unmarked(number: u64) -> u64 {
-    if number == 0 {
-        return 0;
-    }
-    number - 1
-}
-
 // Puts what stands before the place with a number, from 0, of several.
 fn push_join(out: &mut Page<'_>, n: usize, told: usize, times: usize) -> usize {
-    if told == 0 {
-        return n;
-    }
-    if times <= told {
+    if told == 0 || times <= told {
         return n;
     }
     if times - told == 1 {
@@ -50,33 +39,6 @@ fn push_place(
     let card = places::card_of(place) as u64;
     let column = places::column_of(header, place) as u64;
     page::push_form(out, joined, b"on card # at column #", card, column, 0)
-}
-
-// Puts a place where it is one to be told.
-fn push_place_if(
-    out: &mut Page<'_>,
-    n: usize,
-    hit: bool,
-    header: &[u8],
-    place: usize,
-    told: usize,
-    times: usize,
-) -> usize {
-    if !hit {
-        return n;
-    }
-    push_place(out, n, header, place, told, times)
-}
-
-// How many are told when one more may be.
-fn after(told: usize, hit: bool) -> usize {
-    if MOST < told {
-        return told;
-    }
-    if hit {
-        return told + 1;
-    }
-    told
 }
 
 // How many of some places are told one by one: all, or ten where there are two more at least.
@@ -101,12 +63,11 @@ fn push_places(
     let limit = told_of(times);
     let mut end = n;
     let mut told = first;
-    let mut i = 0;
-    while i < keys.len() {
-        let hit = (keys[i] == key) & (i != but) & (told < limit);
-        end = push_place_if(out, end, hit, header, i, told, times);
-        told = after(told, hit);
-        i += 1;
+    for (place, defined) in keys.iter().enumerate() {
+        if *defined == key && place != but && told < limit {
+            end = push_place(out, end, header, place, told, times);
+            told += 1;
+        }
     }
     end
 }
@@ -193,7 +154,7 @@ fn push_own(out: &mut Page<'_>, n: usize, card: &[u8], layout: usize, column: us
     let begun = page::push_all(out, n, b"The code ");
     let code = page::push_code(out, begun, card);
     let own = keys::vessel_of(card, layout) as u64;
-    let stated = unmarked(keys::whole_in(card, column, column));
+    let stated = keys::whole_in(card, column, column).saturating_sub(1);
     let words = b" says vessel #, and column # says vessel #.";
     page::push_form(out, code, words, own, column as u64, stated)
 }
@@ -245,8 +206,8 @@ fn push_found(out: &mut Page<'_>, n: usize, found: usize) -> usize {
 
 // Kind 5 on H00@8: how many waypoints are stated, and how many are found.
 fn push_waypoints(out: &mut Page<'_>, n: usize, keys: &[u64], card: &[u8]) -> usize {
-    let stated = unmarked(keys::whole_in(card, 79, 80));
-    let vessel = unmarked(keys::whole_in(card, 30, 30));
+    let stated = keys::whole_in(card, 79, 80).saturating_sub(1);
+    let vessel = keys::whole_in(card, 30, 30).saturating_sub(1);
     let count = names::push_count(out, n, stated, b"# waypoint");
     let words = b" for vessel #, and the H00@9 cards of vessel # define ";
     let found = page::push_form(out, count, words, vessel, vessel, 0);
@@ -255,7 +216,7 @@ fn push_waypoints(out: &mut Page<'_>, n: usize, keys: &[u64], card: &[u8]) -> us
 
 // Kind 5 on H0100: how many variation points are stated, and how many are found.
 fn push_points(out: &mut Page<'_>, n: usize, keys: &[u64], card: &[u8]) -> usize {
-    let stated = unmarked(keys::whole_in(card, 16, 19));
+    let stated = keys::whole_in(card, 16, 19).saturating_sub(1);
     let count = names::push_count(out, n, stated, b"# variation point");
     let found = page::push_all(out, count, b", and the H0101 cards define ");
     push_found(out, found, places::points_in(keys))
@@ -281,16 +242,10 @@ fn push_miscounted(
 
 // The last column of the field that begins in a column, 0 where none does.
 fn last_from(layout: usize, column: usize) -> usize {
-    let count = fields::fields_in(layout);
-    let mut n = 0;
-    while n < count {
-        n += 1;
-        let row = format_layout::row_of(layout, n);
-        if fields::first_of(row) == column {
-            return fields::last_of(row);
-        }
-    }
-    0
+    (1..=fields::fields_in(layout))
+        .map(|n| format_layout::row_of(layout, n))
+        .find(|row| fields::first_of(*row) == column)
+        .map_or(0, fields::last_of)
 }
 
 // Kind 6: the columns of the number, and where it should end.

@@ -54,51 +54,34 @@ pub fn push_thing(out: &mut Page<'_>, n: usize, key: u64) -> usize {
 
 // Whether the cards of a layout define keys of a class.
 fn defines(layout: usize, class: u64) -> bool {
-    let mut slot = 0;
-    while slot < SLOTS {
-        slot += 1;
-        if keys::defined_class(tie_rules::tie_of(layout, slot)) == class {
-            return true;
-        }
-    }
-    false
+    (1..=SLOTS).any(|slot| keys::defined_class(tie_rules::tie_of(layout, slot)) == class)
 }
 
 // Puts a byte of a code; where the code leaves it open, the datum that it is, # for a digit of an observation's type, or @ for the
 // digit of a vessel.
 fn push_open(out: &mut Page<'_>, n: usize, byte: u8, key: u64) -> usize {
-    if (byte != b'@') & (byte != b'#') {
-        return page::push(out, n, byte);
+    match byte {
+        b'@' | b'#' => match key / ROOM {
+            DATUMS => page::push_number(out, n, key % ROOM),
+            OBSERVATIONS => page::push(out, n, b'#'),
+            _ => page::push(out, n, b'@'),
+        },
+        _ => page::push(out, n, byte),
     }
-    if key / ROOM == DATUMS {
-        return page::push_number(out, n, key % ROOM);
-    }
-    if key / ROOM == OBSERVATIONS {
-        return page::push(out, n, b'#');
-    }
-    page::push(out, n, b'@')
 }
 
 // Puts the code of a layout, by its row in the format's table: five bytes, the last one lowest.
 fn push_pattern(out: &mut Page<'_>, n: usize, layout: usize, key: u64) -> usize {
-    let word = format_layout::row_of(layout, 0);
-    let a = push_open(out, n, (word / 0x1_00_00_00_00 % 256) as u8, key);
-    let b = push_open(out, a, (word / 0x1_00_00_00 % 256) as u8, key);
-    let c = push_open(out, b, (word / 0x1_00_00 % 256) as u8, key);
-    let d = push_open(out, c, (word / 0x1_00 % 256) as u8, key);
-    push_open(out, d, (word % 256) as u8, key)
+    let mut end = n;
+    for byte in &format_layout::row_of(layout, 0).to_be_bytes()[3..] {
+        end = push_open(out, end, *byte, key);
+    }
+    end
 }
 
 // Whether cards of a layout behind one define keys of a class.
 fn defined_behind(layout: usize, class: u64) -> bool {
-    let mut next = layout;
-    while next < UNREAD {
-        next += 1;
-        if defines(next, class) {
-            return true;
-        }
-    }
-    false
+    (layout..=UNREAD).skip(1).any(|next| defines(next, class))
 }
 
 // Puts what stands before a code: nothing before the first of several.
@@ -113,10 +96,7 @@ fn push_or(out: &mut Page<'_>, n: usize, first: bool, more: bool) -> usize {
 }
 
 // Puts the code of a layout that defines a key, behind those that are told already.
-fn push_if(out: &mut Page<'_>, n: usize, hit: bool, first: bool, layout: usize, key: u64) -> usize {
-    if !hit {
-        return n;
-    }
+fn push_definer(out: &mut Page<'_>, n: usize, first: bool, layout: usize, key: u64) -> usize {
     let joined = push_or(out, n, first, defined_behind(layout, key / ROOM));
     push_pattern(out, joined, layout, key)
 }
@@ -125,12 +105,11 @@ fn push_if(out: &mut Page<'_>, n: usize, hit: bool, first: bool, layout: usize, 
 pub fn push_definers(out: &mut Page<'_>, n: usize, key: u64) -> usize {
     let mut end = n;
     let mut first = true;
-    let mut layout = 0;
-    while layout < UNREAD {
-        let hit = defines(layout, key / ROOM);
-        end = push_if(out, end, hit, first, layout, key);
-        first = first & !hit;
-        layout += 1;
+    for layout in 0..UNREAD {
+        if defines(layout, key / ROOM) {
+            end = push_definer(out, end, first, layout, key);
+            first = false;
+        }
     }
     end
 }

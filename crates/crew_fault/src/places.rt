@@ -31,11 +31,8 @@ fn key_at(header: &[u8], place: usize) -> u64 {
 
 // Notes the keys of all places.
 pub fn note(header: &[u8], keys: &mut [u64]) {
-    let n = keys.len();
-    let mut i = 0;
-    while i < n {
-        keys[i] = key_at(header, i);
-        i += 1;
+    for (place, key) in keys.iter_mut().enumerate() {
+        *key = key_at(header, place);
     }
 }
 
@@ -43,14 +40,9 @@ pub fn note(header: &[u8], keys: &mut [u64]) {
 fn slot_of(layout: usize, column: usize) -> usize
     ensures { result ≤ 4 }
 {
-    let mut slot = 0;
-    while slot < SLOTS - 1 {
-        if keys::column_of(tie_rules::tie_of(layout, slot + 1)) == column {
-            return slot;
-        }
-        slot += 1;
-    }
-    slot
+    (1..SLOTS)
+        .position(|slot| keys::column_of(tie_rules::tie_of(layout, slot)) == column)
+        .unwrap_or(SLOTS - 1)
 }
 
 // The row of a column of a layout; that of its last slot for any other column.
@@ -60,35 +52,18 @@ pub fn row_at(layout: usize, column: usize) -> u64 {
 
 // The place of a card's column; 0 where there is no such card.
 pub fn place_at(header: &[u8], card: usize, column: usize) -> usize {
-    if card == 0 {
-        return 0;
-    }
-    if FEW_CARDS < card {
+    if !(1..=FEW_CARDS).contains(&card) {
         return 0;
     }
     let layout = forms::layout_of(page::card_in(header, card));
     (card - 1) * SLOTS + slot_of(layout, column)
 }
 
-fn one_if(hit: bool) -> usize
-    ensures { result ≤ 1 }
-{
-    if hit {
-        return 1;
-    }
-    0
-}
-
 // How many keys lie from one to another.
 fn count_from(keys: &[u64], low: u64, high: u64) -> usize {
-    let mut count = 0;
-    let mut i = 0;
-    while i < keys.len() {
-        let key = keys[i];
-        count += one_if((low <= key) & (key <= high));
-        i += 1;
-    }
-    count
+    keys.iter()
+        .filter(|key| (low..=high).contains(*key))
+        .count()
 }
 
 // How often a key is defined.
@@ -112,12 +87,7 @@ pub fn points_in(keys: &[u64]) -> usize {
 
 // The first place of a key, or how many places there are.
 pub fn first_of(keys: &[u64], key: u64) -> usize {
-    let mut i = 0;
-    while i < keys.len() {
-        if keys[i] == key {
-            return i;
-        }
-        i += 1;
-    }
-    i
+    keys.iter()
+        .position(|defined| *defined == key)
+        .unwrap_or(keys.len())
 }

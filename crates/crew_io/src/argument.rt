@@ -7,8 +7,5 @@ use std::rt::Env;
 pub fn word(rt: &impl Env, place: usize, buf: &mut [u8]) -> usize
     ensures { result ≤ length buf.new }
 {
-    match rt.arg(place, buf) {
-        Ok(size) => size,
-        Err(_) => 0,
-    }
+    rt.arg(place, buf).unwrap_or(0)
 }

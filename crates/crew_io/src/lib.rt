@@ -1,4 +1,4 @@
-// What the crew's programs share: their arguments, standard input, a page for people, and the line that says what failed.
+// What the crew's programs share: arguments, standard input, a page for people, and the line that says what failed.
 #![tactic(auto)]
 
 pub mod argument;

@@ -5,10 +5,8 @@ use std::io::{Error, ErrorKind, Stdout};
 use value_text::printable::LAST;
 use value_text::text;
 
-const DOT: u8 = 46;
-
 // The end of a page that could not be written: nothing more is.
-pub const FAILED: usize = 18446744073709551615;
+pub const FAILED: usize = usize::MAX;
 
 // A page on standard output: the buffer that is lent for it, and the error of the write that failed, if one did.
 #[derive(Drop)]
@@ -29,10 +27,10 @@ pub fn on(to: Stdout, bytes: &mut [u8]) -> Page<'_> {
 
 // The first byte of a new page.
 fn begin(out: &mut Page<'_>, b: u8) -> usize {
-    if out.bytes.len() == 0 {
+    let Some(first) = out.bytes.first_mut() else {
         return FAILED;
-    }
-    out.bytes[0] = b;
+    };
+    *first = b;
     1
 }
 
@@ -46,8 +44,7 @@ pub fn push(out: &mut Page<'_>, n: usize, b: u8) -> usize {
         return FAILED;
     }
     let to = out.to;
-    let written = to.write_all(out.bytes);
-    if let Err(why) = written {
+    if let Err(why) = to.write_all(out.bytes) {
         out.failure = Some(why);
         return FAILED;
     }
@@ -59,19 +56,17 @@ pub fn finish(out: &Page<'_>, n: usize) -> Result<(), Error> {
     if let Some(why) = out.failure {
         return Err(why);
     }
-    if out.bytes.len() < n {
+    let Some(left) = out.bytes.get(..n) else {
         return Err(Error::from(ErrorKind::WriteZero));
-    }
-    out.to.write_all(&out.bytes[..n])
+    };
+    out.to.write_all(left)
 }
 
 // Puts bytes as they are.
 pub fn push_all(out: &mut Page<'_>, n: usize, s: &[u8]) -> usize {
     let mut end = n;
-    let mut i = 0;
-    while i < s.len() {
-        end = push(out, end, s[i]);
-        i += 1;
+    for b in s {
+        end = push(out, end, *b);
     }
     end
 }
@@ -97,34 +92,29 @@ pub fn push_form(out: &mut Page<'_>, n: usize, words: &[u8], a: u64, b: u64, c: 
     let mut end = n;
     let mut first = a;
     let mut second = b;
-    let mut i = 0;
-    while i < words.len() {
-        let byte = words[i];
-        end = push_next(out, end, byte, first);
-        if byte == b'#' {
+    for byte in words {
+        end = push_next(out, end, *byte, first);
+        if *byte == b'#' {
             first = second;
             second = c;
         }
-        i += 1;
     }
     end
 }
 
 // The character that is shown for a byte.
 fn shown(b: u8) -> u8 {
-    if (b < BLANK) | (LAST < b) {
-        return DOT;
+    match b {
+        BLANK..=LAST => b,
+        _ => b'.',
     }
-    b
 }
 
 // Puts bytes so that they can be read: a dot for each that is not printable.
 pub fn push_shown(out: &mut Page<'_>, n: usize, s: &[u8]) -> usize {
     let mut end = n;
-    let mut i = 0;
-    while i < s.len() {
-        end = push(out, end, shown(s[i]));
-        i += 1;
+    for b in s {
+        end = push(out, end, shown(*b));
     }
     end
 }
@@ -132,20 +122,15 @@ pub fn push_shown(out: &mut Page<'_>, n: usize, s: &[u8]) -> usize {
 // Puts a number of blanks.
 fn push_blanks(out: &mut Page<'_>, n: usize, count: usize) -> usize {
     let mut end = n;
-    let mut i = 0;
-    while i < count {
+    for _ in 0..count {
         end = push(out, end, BLANK);
-        i += 1;
     }
     end
 }
 
 // Puts a caret under a column; no line at all where there is no such column.
 fn push_caret(out: &mut Page<'_>, n: usize, column: usize) -> usize {
-    if column == 0 {
-        return n;
-    }
-    if CARD < column {
+    if !(1..=CARD).contains(&column) {
         return n;
     }
     let under = push_blanks(out, n, column + 1);
@@ -154,11 +139,8 @@ fn push_caret(out: &mut Page<'_>, n: usize, column: usize) -> usize {
 
 // The card with a number, from 1; empty where there is none.
 pub fn card_in(header: &[u8], card: usize) -> &[u8] {
-    if card == 0 {
-        return &header[..0];
-    }
-    if header.len() / CARD < card {
-        return &header[..0];
+    if card == 0 || header.len() / CARD < card {
+        return &[];
     }
     let end = card * CARD;
     &header[end - CARD..end]
@@ -174,8 +156,8 @@ pub fn push_card(out: &mut Page<'_>, n: usize, card: &[u8], column: usize) -> us
 
 // Puts a card's code.
 pub fn push_code(out: &mut Page<'_>, n: usize, card: &[u8]) -> usize {
-    if card.len() < CODE {
+    let Some(code) = card.get(..CODE) else {
         return n;
-    }
-    push_shown(out, n, &card[..CODE])
+    };
+    push_shown(out, n, code)
 }

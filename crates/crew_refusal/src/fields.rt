@@ -3,12 +3,12 @@ use crate::malformed;
 use crew_io::page;
 use crew_io::page::Page;
 use format_layout::names::H00X9;
-use format_layout::{Field, Form, Found, Kind, Range, fields};
+use format_layout::{Field, Form, Kind, Range, fields};
 
 // Whether the field with a number begins in a column.
 fn begins_at(layout: usize, number: usize, column: usize) -> bool {
     let found = fields::field_of(layout, number);
-    let Found::Is(f) = found else {
+    let Some(f) = found else {
         return false;
     };
     f.first == column
@@ -16,20 +16,14 @@ fn begins_at(layout: usize, number: usize, column: usize) -> bool {
 
 // The number of the field that begins in a column, 0 where there is none.
 fn number_at(layout: usize, column: usize) -> usize {
-    let count = fields::fields_in(layout);
-    let mut n = 0;
-    while n < count {
-        n += 1;
-        if begins_at(layout, n, column) {
-            return n;
-        }
-    }
-    0
+    (1..=fields::fields_in(layout))
+        .find(|n| begins_at(layout, *n, column))
+        .unwrap_or(0)
 }
 
 // Puts the numbers from one to another.
 fn push_between(out: &mut Page<'_>, n: usize, low: u64, high: u64) -> usize {
-    if (low == 0) & (high == 1) {
+    if low == 0 && high == 1 {
         return page::push_all(out, n, b" has to be 0 or 1.");
     }
     page::push_form(out, n, b" has to be from # to #.", low, high, 0)
@@ -57,10 +51,13 @@ fn push_value(out: &mut Page<'_>, n: usize, kind: Kind) -> usize {
 
 // 10: what the value has to be.
 fn push_outside(out: &mut Page<'_>, n: usize, f: Field) -> usize {
-    let kind = f.kind;
-    let range = f.range;
-    let first = f.first;
-    let last = f.last;
+    let Field {
+        kind,
+        range,
+        first,
+        last,
+        ..
+    } = f;
     let words = push_value(out, n, kind);
     let span = malformed::push_span(out, words, b'c', first, last);
     match kind {
@@ -100,7 +97,7 @@ fn push_missing(out: &mut Page<'_>, n: usize, f: Field, layout: usize) -> usize 
     page::push_all(out, span, b" may not be blank.")
 }
 
-// Puts what is wrong with the field of a layout that begins in a column, by its card's form and the number of the refusal.
+// Puts what is wrong with the field of a layout that begins in a column, by its card's form and the refusal's number.
 pub fn push_field(
     out: &mut Page<'_>,
     n: usize,
@@ -110,7 +107,7 @@ pub fn push_field(
     column: usize,
 ) -> usize {
     let found = fields::field_of(layout, number_at(layout, column));
-    let Found::Is(f) = found else {
+    let Some(f) = found else {
         return n;
     };
     match number {

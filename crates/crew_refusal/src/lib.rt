@@ -32,16 +32,16 @@ fn push_length(out: &mut Page<'_>, n: usize, header: &[u8]) -> usize {
 // Puts what the usual bytes are that are not printable.
 fn push_byte_name(out: &mut Page<'_>, n: usize, b: u8) -> usize {
     match b {
-        9 => page::push_all(out, n, b", a tab"),
-        10 => page::push_all(out, n, b", a line end"),
-        13 => page::push_all(out, n, b", a carriage return"),
+        b'\t' => page::push_all(out, n, b", a tab"),
+        b'\n' => page::push_all(out, n, b", a line end"),
+        b'\r' => page::push_all(out, n, b", a carriage return"),
         _ => n,
     }
 }
 
 // Puts what helps where the byte is of a line end.
 fn push_line_end(out: &mut Page<'_>, n: usize, b: u8) -> usize {
-    if (b == 10) | (b == 13) {
+    if b == b'\n' || b == b'\r' {
         return page::push_all(
             out,
             n,
@@ -91,19 +91,14 @@ fn push_expected(out: &mut Page<'_>, n: usize, place: usize) -> usize {
 // Whether a card is an H00@8 or H00@9 with a code number that is not above another.
 fn comes_before(card: &[u8], number: usize) -> bool {
     let layout = forms::layout_of(card);
-    ((layout == H00X8) | (layout == H00X9)) & (header_check::code_number(card) <= number)
+    matches!(layout, H00X8 | H00X9) && header_check::code_number(card) <= number
 }
 
 // Behind which of the cards before a place an H00@8 or H00@9 belongs, by its code number: at least behind H0007.
 fn place_behind(header: &[u8], number: usize, place: usize) -> usize {
-    let mut before = OPENING;
-    while before < place {
-        if !comes_before(page::card_in(header, before + 1), number) {
-            return before;
-        }
-        before += 1;
-    }
-    before
+    (OPENING..place)
+        .find(|before| !comes_before(page::card_in(header, before + 1), number))
+        .unwrap_or(place.max(OPENING))
 }
 
 // Puts behind which card an H00@8 or H00@9 belongs.
@@ -130,7 +125,7 @@ fn push_home(out: &mut Page<'_>, n: usize, header: &[u8], card: &[u8], place: us
 
 // 6: which card has to stand here, or where this one has to stand.
 fn push_misplaced(out: &mut Page<'_>, n: usize, header: &[u8], card: &[u8], place: usize) -> usize {
-    if card.len() == 0 {
+    if card.is_empty() {
         let begun = page::push_all(out, n, b"The header ends before its opening cards do: ");
         return push_expected(out, begun, place);
     }
@@ -154,10 +149,8 @@ fn push_gap(out: &mut Page<'_>, n: usize, card: &[u8], column: usize) -> usize {
 fn push_label(out: &mut Page<'_>, n: usize, layout: usize) -> usize {
     let size = label::label_length(layout);
     let mut end = n;
-    let mut i = 0;
-    while i < size {
+    for i in 0..size {
         end = page::push(out, end, label::label_byte(layout, i));
-        i += 1;
     }
     end
 }
@@ -225,7 +218,7 @@ fn push_reason(
 
 // Puts the card of a refusal with a caret, where there is one.
 fn push_card_if(out: &mut Page<'_>, n: usize, card: &[u8], column: usize) -> usize {
-    if card.len() == 0 {
+    if card.is_empty() {
         return n;
     }
     page::push_card(out, n, card, column)
@@ -233,17 +226,15 @@ fn push_card_if(out: &mut Page<'_>, n: usize, card: &[u8], column: usize) -> usi
 
 // Puts what to do with a tape in EBCDIC, if the header looks like one.
 fn push_tape(out: &mut Page<'_>, n: usize, header: &[u8]) -> usize {
-    if base_lists::byte_at(header, 0) != EBCDIC_H {
-        return n;
-    }
-    if base_lists::byte_at(header, 1) != EBCDIC_0 {
+    if !header.starts_with(&[EBCDIC_H, EBCDIC_0]) {
         return n;
     }
     let words = b"  This looks like a tape in EBCDIC: ./lineform ascii translates it.\n";
     page::push_all(out, n, words)
 }
 
-// Tells why a header is refused by a program that takes so many cards: its card, a caret, and a sentence, each behind two blanks.
+// Tells why a header is refused by a program that takes so many cards: its card, a caret, and a sentence, each behind
+// two blanks.
 pub fn tell_refusal(
     out: &mut Page<'_>,
     n: usize,

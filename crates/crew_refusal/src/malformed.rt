@@ -57,8 +57,7 @@ fn push_wanted(
     form: Form,
 ) -> usize {
     match kind {
-        Kind::Text => n,
-        Kind::Comment => n,
+        Kind::Text | Kind::Comment => n,
         Kind::Whole => push_whole(out, n, first, last),
         Kind::Decimal => page::push_all(out, n, b"a number."),
         Kind::Date => page::push_all(out, n, b"a date of eight digits, YYYYMMDD."),
@@ -95,20 +94,12 @@ fn push_late(out: &mut Page<'_>, n: usize, first: usize, last: usize) -> usize {
     )
 }
 
-fn is_text(kind: Kind) -> bool {
-    match kind {
-        Kind::Text => true,
-        Kind::Comment => true,
-        _ => false,
-    }
-}
-
 // 9: what the columns do not hold.
 pub fn push_malformed(out: &mut Page<'_>, n: usize, f: Field, form: Form) -> usize {
     let first = f.first;
     let last = f.last;
     let kind = f.kind;
-    if is_text(kind) {
+    if matches!(kind, Kind::Text | Kind::Comment) {
         return push_late(out, n, first, last);
     }
     let lacks = push_lacks(out, n, first, last);

@@ -39,23 +39,22 @@ pub enum Code {
 }
 
 // Whether a byte is one that a pattern's byte stands for.
+#[tactic(auto, unfolding(crate::specs::Codes::byte_fits))]
 fn byte_fits(pattern: u8, byte: u8) -> bool
     ensures { result ≡ byte_fits pattern byte }
 {
-    if pattern == b'@' {
-        return (b'1' <= byte) & (byte <= b'9');
+    match pattern {
+        b'@' => matches!(byte, b'1'..=b'9'),
+        b'#' => byte.is_ascii_digit(),
+        _ => pattern == byte,
     }
-    if pattern == b'#' {
-        return (b'0' <= byte) & (byte <= b'9');
-    }
-    pattern == byte
 }
 
 // A code's first three bytes as one number.
 fn head_of(first: u8, second: u8, third: u8) -> u64
     ensures { (result ≡ (first * 256 + second) * 256 + third) × (first < 256) × (second < 256) × (third < 256) }
 {
-    (first as u64 * 256 + second as u64) * 256 + third as u64
+    (u64::from(first) * 256 + u64::from(second)) * 256 + u64::from(third)
 }
 
 // A code's five bytes as one number.
@@ -63,21 +62,18 @@ fn word_of(head: u64, fourth: u8, fifth: u8) -> u64
     requires { head < 16777216 }
     ensures { result ≡ (head * 256 + fourth) * 256 + fifth }
 {
-    (head * 256 + fourth as u64) * 256 + fifth as u64
+    (head * 256 + u64::from(fourth)) * 256 + u64::from(fifth)
 }
 
 // Whether a code fits a pattern: first its first three bytes, which no pattern leaves open, then the last, then the fourth.
 // One test after the other is faster here than a comparison without branches.
+#[tactic(auto, unfolding(crate::specs::packed::Words::fits_word))]
 fn fits_word(word: u64, head: u64, fourth: u8, fifth: u8) -> bool
     ensures { result ≡ fits_word word head fourth fifth }
 {
-    if word / 65536 != head {
-        return false;
-    }
-    if !byte_fits((word % 256) as u8, fifth) {
-        return false;
-    }
-    byte_fits((word / 256 % 256) as u8, fourth)
+    word / 65536 == head
+        && byte_fits((word % 256) as u8, fifth)
+        && byte_fits((word / 256 % 256) as u8, fourth)
 }
 
 // A layout before which none reads a code: all that stand before it take only lower codes, or, where a code is below every H,
@@ -85,34 +81,18 @@ fn fits_word(word: u64, head: u64, fourth: u8, fifth: u8) -> bool
 fn start_of(word: u64) -> usize
     ensures { (result ≤ layout_count) × ((s : List ℕ) → word_of s ≡ word → place_in codes s ≡ result + place_in (drop result codes) s) }
 {
-    if H50 <= word {
-        return 27;
+    match word {
+        H50.. => 27,
+        H2310.. => 24,
+        H23.. => 23,
+        H22.. => 22,
+        H21.. => 18,
+        H17.. => 16,
+        H0101.. => 13,
+        H01.. => 12,
+        H.. => 0,
+        _ => 10,
     }
-    if H2310 <= word {
-        return 24;
-    }
-    if H23 <= word {
-        return 23;
-    }
-    if H22 <= word {
-        return 22;
-    }
-    if H21 <= word {
-        return 18;
-    }
-    if H17 <= word {
-        return 16;
-    }
-    if H0101 <= word {
-        return 13;
-    }
-    if H01 <= word {
-        return 12;
-    }
-    if word < H {
-        return 10;
-    }
-    0
 }
 
 // What a code is that no layout reads: one walk over the passed codes.
@@ -123,6 +103,8 @@ fn passed_by(code: &[u8]) -> Code
     let head = head_of(code[0], code[1], code[2]);
     let fourth = code[3];
     let fifth = code[4];
+
+    // Counted by hand: the rows end at the first 0, and nowhere is it said how many they are.
     let mut number = 0;
     loop {
         let word = passed(number);
@@ -144,6 +126,8 @@ fn read_by(code: &[u8]) -> Code
     let head = head_of(code[0], code[1], code[2]);
     let fourth = code[3];
     let fifth = code[4];
+
+    // Counted by hand as above.
     let mut number = start_of(word_of(head, fourth, fifth));
     loop {
         let word = format_layout::row_of(number, 0);

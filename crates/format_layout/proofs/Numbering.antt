@@ -6,7 +6,6 @@ use native.Mathlib.Omega.{arith}
 use native.Mathlib.Decide.{dec_lt}
 use lib.Dec.{T, leb, leb→le}
 use lib.ListN.{length}
-use Rattle.format_layout.specs.declared.Found.TheVariants.{Is}
 use Rattle.format_layout.specs.Shape.{Layout}
 use Rattle.format_layout.specs.Table.{layouts}
 use Rattle.format_layout.specs.Layouts.{layout_at, fields_of, field_of}
@@ -16,12 +15,13 @@ use Rattle.format_layout.proofs.Places.{no_fields}
 use Rattle.format_layout.proofs.Columns.{of_layout}
 use Rattle.format_layout.proofs.Lines.{is_none, is_found}
 use Rattle.format_layout.proofs.Numbers.{numbered, never_nothing}
+use Rattle.std.specs.Prelude.{Some}
 
 module _ (k n r : ℕ) (is : r ≡ row_of k (n + 1)) where
   one_on : n + 1 ≡ 0 → ⊥
   one_on e = omega arith
 
-  pub row-there : (r ≡ 0 → ⊥) → field_of k (n + 1) ≡ Is (unpack r)
+  pub row-there : (r ≡ 0 → ⊥) → field_of k (n + 1) ≡ Some (unpack r)
   row-there z = sym (is_found k (n + 1) r (unpack r) one_on is z refl)
 
   pub row_inside : (r ≡ 0 → ⊥) → n < length (fields_of k)

@@ -1,11 +1,9 @@
 -- What is asked of the layout table: a layout's fields and label.
-use Rattle.std.specs.Prelude.{ℕ, ◌-◌, Bool, true, false, cond, ◌&&◌, List, [], leb, length, get_or}
+use Rattle.std.specs.Prelude.{ℕ, ◌-◌, Bool, true, false, cond, ◌&&◌, List, [], leb, length, get_or, Option, Some, None}
 use Rattle.format_layout.specs.declared.Kind.TheVariants.{Text}
 use Rattle.format_layout.specs.declared.Range.{Range}
 use Rattle.format_layout.specs.declared.Range.TheVariants.{Any, AtLeast, Between, OneOf}
 use Rattle.format_layout.specs.declared.Field.{Field}
-use Rattle.format_layout.specs.declared.Found.{Found}
-use Rattle.format_layout.specs.declared.Found.TheVariants.{Is, Nothing}
 use Rattle.format_layout.specs.Shape.{Layout, field}
 use Rattle.format_layout.specs.Table.{layouts}
 
@@ -25,9 +23,9 @@ abbrev pub no_field : Field
 no_field = field Text 0 0 false Any
 
 -- the field with a number, counted from 1, of the layout with a number, counted from 0
-unfoldable pub field_of : ℕ → ℕ → Found
+unfoldable pub field_of : ℕ → ℕ → Option Field
 field_of k n =
-    cond (leb 1 n && leb n (length (fields_of k))) (Is (get_or (fields_of k) (n - 1) no_field)) Nothing
+    cond (leb 1 n && leb n (length (fields_of k))) (Some (get_or (fields_of k) (n - 1) no_field)) None
 
 -- a range that says nothing
 abbrev pub is_any : Range → Bool

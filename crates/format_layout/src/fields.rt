@@ -4,7 +4,7 @@ ghost use Rattle.std.specs.Prelude.{◌≡◌, length};
 ghost use Rattle.format_layout.specs.Layouts.{fields_of, field_of};
 ghost use Rattle.format_layout.specs.packed.Rows.{kind_of, range_of, unpack};
 
-use crate::{Field, Found, Kind, Range};
+use crate::{Field, Kind, Range};
 
 // The first column of the field that a row holds.
 pub fn first_of(row: u64) -> usize
@@ -94,29 +94,27 @@ fn field_in(row: u64) -> Field
 }
 
 // The field with a number, counted from 1, of a layout.
-pub fn field_of(layout: usize, number: usize) -> Found
+pub fn field_of(layout: usize, number: usize) -> Option<Field>
     ensures { result ≡ field_of layout number }
 {
     if number == 0 {
-        return Found::Nothing;
+        return None;
     }
     let row = crate::row_of(layout, number);
     if row == 0 {
-        return Found::Nothing;
+        return None;
     }
-    Found::Is(field_in(row))
+    Some(field_in(row))
 }
 
 // The number of fields of a layout, 0 past the last layout.
 pub fn fields_in(layout: usize) -> usize
     ensures { result ≡ length (fields_of layout) }
 {
+    // Counted by hand: the rows end at the first 0, and nowhere is it said how many they are.
     let mut count = 0;
-    loop {
-        let row = crate::row_of(layout, count + 1);
-        if row == 0 {
-            return count;
-        }
+    while crate::row_of(layout, count + 1) != 0 {
         count += 1;
     }
+    count
 }

@@ -3,6 +3,8 @@ ghost use Rattle.std.specs.Prelude.{◌≡◌, length, get_or};
 ghost use Rattle.format_layout.specs.Layouts.{label_of};
 ghost use Rattle.format_layout.specs.packed.Rows.{label_row};
 
+use crate::BLANK;
+
 // The columns of the longest label.
 const LABEL: usize = 23;
 
@@ -33,7 +35,7 @@ fn label_row(layout: usize) -> Label
         6 => words(*b"Positioning Contractor:", 23),
         7 => words(*b"Processing Contractor: ", 22),
         8 => words(*b"Line Parameters Vessel:", 23),
-        _ => words([b' '; LABEL], 0),
+        _ => words([BLANK; LABEL], 0),
     }
 }
 
@@ -41,8 +43,7 @@ fn label_row(layout: usize) -> Label
 pub fn label_length(layout: usize) -> usize
     ensures { result ≡ length (label_of layout) }
 {
-    let label = label_row(layout);
-    label.width
+    label_row(layout).width
 }
 
 // What a new card has in column 6 + place: the label's byte, and a blank past the label.
@@ -50,8 +51,7 @@ pub fn label_byte(layout: usize, place: usize) -> u8
     ensures { result ≡ get_or (label_of layout) place 32 }
 {
     if LABEL <= place {
-        return 32;
+        return BLANK;
     }
-    let label = label_row(layout);
-    label.text[place]
+    label_row(layout).text[place]
 }

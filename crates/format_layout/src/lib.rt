@@ -17,7 +17,7 @@ pub const CARD: usize = 80;
 
 pub const CODE: usize = 5;
 
-pub const BLANK: u8 = 32;
+pub const BLANK: u8 = b' ';
 
 pub const CARDS: usize = 4096;
 
@@ -56,13 +56,6 @@ pub struct Field {
     pub range: Range,
 }
 
-// The answer to a field's number.
-#[derive(Clone, Copy)]
-pub enum Found {
-    Is(Field),
-    Nothing,
-}
-
 // How a card's coordinates are spelled: form 0, form 1, or it cannot be known.
 #[derive(Clone, Copy)]
 pub enum Form {
@@ -75,14 +68,11 @@ pub enum Form {
 pub fn is_grid(form: Form) -> bool
     ensures { result ≡ is_grid form }
 {
-    match form {
-        Form::Angles => false,
-        Form::Grid => true,
-        Form::Unknown => false,
-    }
+    matches!(form, Form::Grid)
 }
 
 // The form that a caller's number names.
+#[tactic(auto, unfolding(crate::specs::Forms::form_numbered))]
 pub fn form_numbered(form: usize) -> Form
     ensures { result ≡ form_numbered form }
 {

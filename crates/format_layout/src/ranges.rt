@@ -8,12 +8,7 @@ use crate::Range;
 fn is_any(range: Range) -> bool
     ensures { result ≡ is_any range }
 {
-    match range {
-        Range::Any => true,
-        Range::AtLeast(_) => false,
-        Range::Between(_, _) => false,
-        Range::OneOf(_, _, _) => false,
-    }
+    matches!(range, Range::Any)
 }
 
 fn allows_size(range: Range, value: u64) -> bool
@@ -22,8 +17,8 @@ fn allows_size(range: Range, value: u64) -> bool
     match range {
         Range::Any => true,
         Range::AtLeast(low) => low <= value,
-        Range::Between(low, high) => (low <= value) & (value <= high),
-        Range::OneOf(a, b, c) => (value == a) | (value == b) | (value == c),
+        Range::Between(low, high) => low <= value && value <= high,
+        Range::OneOf(a, b, c) => value == a || value == b || value == c,
     }
 }
 
@@ -31,8 +26,8 @@ fn allows_size(range: Range, value: u64) -> bool
 pub fn in_range(range: Range, value: i64) -> bool
     ensures { result ≡ in_range range value }
 {
-    if value < 0 {
-        return is_any(range);
+    match u64::try_from(value) {
+        Ok(size) => allows_size(range, size),
+        Err(_) => is_any(range),
     }
-    allows_size(range, value as u64)
 }

@@ -7,29 +7,29 @@ use mathlib.Core.List.{List}
 use lib.ListN.{length}
 use borrow.Author.Tests.{eq-eqb, ne_eqb, lt-ltb, le-ltb}
 use Rattle.base_refusal.specs.declared.Refusal.{Refusal}
-use Rattle.base_refusal.specs.Refusals.{refusal}
+use Rattle.base_refusal.specs.Refusals.{refusal, no_refusal}
 use Rattle.header_check.specs.forms.Cards.{cards_in}
-use Rattle.header_check.specs.declared.Checked.TheVariants.{Accepted, Refused}
 use Rattle.header_check.specs.Refusing.{largest, cards_answer, refusal_of}
 use Rattle.header_check.specs.packed.Noted.{noted_to, noted_for, Noted}
 use Rattle.header_check.proofs.forms.Layouts.{all_noted}
+use Rattle.std.specs.Prelude.{Err, Result, ⊤}
 
 -- a refusal accepts nothing
-not-accepted : (r : Refusal) → Refused r ≡ Accepted → ⊥
+not-accepted : (r : Refusal) → ◌≡◌ {A = Result ⊤ Refusal} (Err r) no_refusal → ⊥
 not-accepted r e = let z : ◌≡◌ {A = ℕ} 0 1 = cc in omega arith
 
 module _ (h : List ℕ) where
-  pub no_bytes : length h ≡ 0 → (refusal_of h ≡ Refused (refusal 1 0 0)) × ((old : List ℕ) → noted_for h old ≡ old)
+  pub no_bytes : length h ≡ 0 → (refusal_of h ≡ Err (refusal 1 0 0)) × ((old : List ℕ) → noted_for h old ≡ old)
   unfolding refusal_of noted_for
   no_bytes e = rw (eq-eqb (length h) 0 e) (refl, λ old. refl)
 
   module _ (some : length h ≡ 0 → ⊥) where
-    pub odd_bytes : (length h % 80 ≡ 0 → ⊥) → (refusal_of h ≡ Refused (refusal 2 0 0)) × ((old : List ℕ) → noted_for h old ≡ old)
+    pub odd_bytes : (length h % 80 ≡ 0 → ⊥) → (refusal_of h ≡ Err (refusal 2 0 0)) × ((old : List ℕ) → noted_for h old ≡ old)
     unfolding refusal_of noted_for
     odd_bytes l = rw (ne_eqb (length h) 0 some, ne_eqb (length h % 80) 0 l) (refl, λ old. refl)
 
     module _ (whole : length h % 80 ≡ 0) where
-      pub too_many_lem : largest < cards_in h → (refusal_of h ≡ Refused (refusal 3 0 0)) × ((old : List ℕ) → noted_for h old ≡ old)
+      pub too_many_lem : largest < cards_in h → (refusal_of h ≡ Err (refusal 3 0 0)) × ((old : List ℕ) → noted_for h old ≡ old)
       unfolding refusal_of noted_for
       too_many_lem l = rw (ne_eqb (length h) 0 some, eq-eqb (length h % 80) 0 whole, lt-ltb largest (cards_in h) l) (refl, λ old. refl)
 
@@ -38,8 +38,8 @@ module _ (h : List ℕ) where
       by_cards l = rw (ne_eqb (length h) 0 some, eq-eqb (length h % 80) 0 whole, le-ltb largest (cards_in h) l) (refl, λ old. refl)
 
   -- so an accepted header's cards are all noted
-  module _ (accepted : refusal_of h ≡ Accepted) where
-    not-refused : (r : Refusal) → refusal_of h ≡ Refused r → ⊥
+  module _ (accepted : refusal_of h ≡ no_refusal) where
+    not-refused : (r : Refusal) → refusal_of h ≡ Err r → ⊥
     not-refused r e = not-accepted r (sym e ∙ accepted)
 
     pub accepted-noted : (old cards : List ℕ) → length old ≡ largest → cards ≡ noted_for h old → Noted h (cards_in h) cards

@@ -11,17 +11,19 @@ use Rattle.format_code.specs.Codes.{code_of}
 use Rattle.value_text.specs.printable.Bytes.{first_bad}
 use Rattle.format_layout.specs.declared.Form.{Form}
 use Rattle.card_screen.specs.Roles.{sure}
-use Rattle.card_check.specs.declared.Verdict.TheVariants.{Fine, Offence}
 use Rattle.card_check.specs.Judging.{verdict_of, code_verdict}
 use Rattle.card_check.proofs.Ways.{verdict_coded}
 use Rattle.card_check.proofs.Screened.{sure-read, sure_fine}
 use Rattle.header_check.specs.forms.Cards.{layout_of}
 use Rattle.header_check.specs.Refusing.{is_unknown, readable, placed_verdict}
 use Rattle.header_check.proofs.forms.Steps.{read-code}
+use Rattle.std.specs.Prelude.{Err}
+use Rattle.base_refusal.specs.Refusals.{no_refusal}
+use Rattle.card_check.specs.Verdicts.{offending}
 
 -- a byte that is not printable comes first
 pub unprintable : (s : List ℕ) (form : Form) (placed : Bool) (bad : ℕ) → bad ≡ first_bad s → bad < 80
-    → Offence 4 (bad + 1) ≡ placed_verdict s form placed
+    → Err (offending 4 (bad + 1)) ≡ placed_verdict s form placed
 unfolding placed_verdict readable
 unprintable s form placed bad is h = rw (← is, lt-ltb bad 80 h)
 
@@ -33,13 +35,13 @@ module _ (s : List ℕ) (form : Form) (whole : length s ≡ 80) (bad : ℕ) (is 
       let v : verdict_of s form ≡ code_verdict k form s = verdict_coded s form whole bad is h k (sym q) in
       rw (p, ← is, le-ltb bad 80 h, ← q, v) (go k)
     where
-      go : (k : Code) → code_verdict k form s ≡ cond (is_unknown k) (Offence 5 1) (code_verdict k form s)
+      go : (k : Code) → code_verdict k form s ≡ cond (is_unknown k) (Err (offending 5 1)) (code_verdict k form s)
       go code.Unknown = refl
       go code.Passed = refl
       go (code.Read n) = refl
 
   -- and is fine where the screen is sure of it
-  pub placed-sure : (placed b : Bool) (k : ℕ) → k ≡ layout_of s → b ≡ sure k s → placed && b ≡ true → Fine ≡ placed_verdict s form placed
+  pub placed-sure : (placed b : Bool) (k : ℕ) → k ≡ layout_of s → b ≡ sure k s → placed && b ≡ true → no_refusal ≡ placed_verdict s form placed
   unfolding code_verdict
   placed-sure true true k e q t =
       sym (sure_fine k form s whole (sym q)) ∙ placed_by true (code.Read k) refl (read-code s k e (sure-read k s (sym q)))
@@ -48,6 +50,6 @@ module _ (s : List ℕ) (form : Form) (whole : length s ≡ 80) (bad : ℕ) (is 
 
   -- a card that stands elsewhere
   pub misplaced : (placed : Bool) (k : Code) → placed ≡ false → k ≡ code_of (take 5 s)
-      → cond (is_unknown k) (Offence 5 1) (Offence 6 1) ≡ placed_verdict s form placed
+      → cond (is_unknown k) (Err (offending 5 1)) (Err (offending 6 1)) ≡ placed_verdict s form placed
   unfolding placed_verdict readable
   misplaced placed k p q = rw (p, ← is, le-ltb bad 80 h, ← q)

@@ -12,19 +12,21 @@ use Rattle.base_lists.specs.Count.{first, first_from}
 use Rattle.base_lists.proofs.Finding.{stops, goes, over}
 use Rattle.base_lists.proofs.Parting.{part-get_d}
 use Rattle.format_layout.specs.declared.Form.{Form}
-use Rattle.card_check.specs.declared.Verdict.{Verdict}
-use Rattle.card_check.specs.declared.Verdict.TheVariants.{Fine, Offence}
 use Rattle.header_check.specs.forms.Cards.{card_at, cards_in, byte_in, layout_of}
 use Rattle.header_check.specs.forms.Forms.{form_of}
 use Rattle.header_check.specs.packed.Notes.{notes_to, form_by}
 use Rattle.header_check.proofs.forms.Noting.{form-noted}
-use Rattle.header_check.specs.declared.Checked.{Checked}
 use Rattle.format_layout.specs.Names.{H00X8, H00X9}
 use Rattle.header_check.specs.Opening.{code_number, number_before, goes_on, continues, has_line, stands_at}
 use Rattle.header_check.proofs.Block.{block_le, open_to, opens_on, line_to, line_on, line-behind, stands_by}
 use Rattle.header_check.specs.Refusing.{placed_verdict, end_verdict, verdict_at, is_fine, offends, answer_for, answer_at, cards_answer}
+use Rattle.std.specs.Prelude.{Result, Err, ⊤}
+use Rattle.card_check.specs.declared.Offence.{Offence}
+use Rattle.base_refusal.specs.declared.Refusal.{Refusal}
+use Rattle.base_refusal.specs.Refusals.{no_refusal}
+use Rattle.card_check.specs.Verdicts.{offending}
 
-offends_by : (h : List ℕ) (c : ℕ) (v : Verdict) → v ≡ verdict_at h c → offends h c ≡ not (is_fine v)
+offends_by : (h : List ℕ) (c : ℕ) (v : Result ⊤ Offence) → v ≡ verdict_at h c → offends h c ≡ not (is_fine v)
 unfolding offends
 offends_by h c v e = rw e
 
@@ -35,7 +37,7 @@ module _ (h : List ℕ) where
   vessel_byte bytes c = rw (part-get_d 80 h c 6 0 (omega arith)) (bytes (80 * c + 6))
 
   -- what is found at a card
-  pub found : (t s : List ℕ) (c k : ℕ) (form : Form) (inside line placed : Bool) (v : Verdict)
+  pub found : (t s : List ℕ) (c k : ℕ) (form : Form) (inside line placed : Bool) (v : Result ⊤ Offence)
       → t ≡ notes_to h (cards_in h) → s ≡ card_at h c → c < cards_in h → byte_in (card_at h c) 7 < 256
       → k ≡ layout_of s → form ≡ form_by t k s → inside ≡ open_to h (c + 1) → line ≡ line_to h c
       → placed ≡ inside || (line && ltb H00X9 k) → v ≡ placed_verdict s form placed → v ≡ verdict_at h c
@@ -61,15 +63,15 @@ module _ (h : List ℕ) where
 
   module _ (c : ℕ) (l : c < cards_in h) (on : first (offends h) (cards_in h) ≡ first_from (offends h) (cards_in h - c) c) where
     -- it goes on behind a card that is fine
-    pub goes_on_lem : (v : Verdict) → v ≡ verdict_at h c → v ≡ Fine
+    pub goes_on_lem : (v : Result ⊤ Offence) → v ≡ verdict_at h c → v ≡ no_refusal
         → first (offends h) (cards_in h) ≡ first_from (offends h) (cards_in h - (c + 1)) (c + 1)
     goes_on_lem v e q =
         let f : offends h c ≡ false = offends_by h c v e ∙ ap (λ x. not (is_fine x)) q in
         on ∙ goes (offends h) (cards_in h) c l f
 
     -- and ends at an offence
-    pub ends_at : (v : Verdict) → v ≡ verdict_at h c → (n column : ℕ) → v ≡ Offence n column
-        → (r : Checked) → r ≡ answer_for v (c + 1) → r ≡ cards_answer h
+    pub ends_at : (v : Result ⊤ Offence) → v ≡ verdict_at h c → (n column : ℕ) → v ≡ Err (offending n column)
+        → (r : Result ⊤ Refusal) → r ≡ answer_for v (c + 1) → r ≡ cards_answer h
     unfolding cards_answer answer_at
     ends_at v e n column q r a =
         let f : offends h c ≡ true = offends_by h c v e ∙ ap (λ x. not (is_fine x)) q in
@@ -78,8 +80,8 @@ module _ (h : List ℕ) where
 
   -- past the last card
   pub ends_past : (c : ℕ) → c ≡ cards_in h → first (offends h) (cards_in h) ≡ first_from (offends h) (cards_in h - c) c
-      → (line : Bool) → line ≡ line_to h c → (v : Verdict) → v ≡ end_verdict line
-      → (r : Checked) → r ≡ answer_for v (cards_in h + 1) → r ≡ cards_answer h
+      → (line : Bool) → line ≡ line_to h c → (v : Result ⊤ Offence) → v ≡ end_verdict line
+      → (r : Result ⊤ Refusal) → r ≡ answer_for v (cards_in h + 1) → r ≡ cards_answer h
   unfolding cards_answer answer_at verdict_at
   ends_past c q on line el v e r a =
       let at : first (offends h) (cards_in h) ≡ cards_in h = on ∙ over (offends h) (cards_in h) c (omega arith) ∙ q in

@@ -1,5 +1,6 @@
 -- Laws of the notes.
 pub mod Steps
+pub mod Reading
 pub mod Layouts
 pub mod Flags
 pub mod Noting

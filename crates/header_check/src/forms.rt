@@ -59,16 +59,15 @@ pub fn layout_of(card: &[u8]) -> usize
 }
 
 // The code that a layout's number stands for.
+#[tactic(auto, unfolding(crate::specs::forms::Cards::code_by))]
 pub fn code_by(layout: usize) -> Code
     ensures { result ≡ code_by layout }
 {
-    if layout == UNREAD {
-        return Code::Passed;
+    match layout {
+        UNREAD => Code::Passed,
+        UNKNOWN => Code::Unknown,
+        k => Code::Read(k),
     }
-    if layout == UNKNOWN {
-        return Code::Unknown;
-    }
-    Code::Read(layout)
 }
 
 // What is noted of a card: the number of its layout, with SURE added where the screen is sure of it.
@@ -87,7 +86,7 @@ fn card_note(table: &[u64; TABLE], card: &[u8], layout: usize) -> u8
 pub fn layout_in(note: u8) -> usize
     ensures { result ≡ layout_in note }
 {
-    (note % FLAG) as usize
+    usize::from(note % FLAG)
 }
 
 // Whether it tells that the screen is sure of the card.
@@ -98,6 +97,7 @@ pub fn is_sure(note: u8) -> bool
 }
 
 // Whether it has a flag.
+#[tactic(auto, unfolding(crate::specs::packed::Noted::is_flagged))]
 pub fn is_flagged(note: u8) -> bool
     ensures { result ≡ is_flagged note }
 {
@@ -105,6 +105,7 @@ pub fn is_flagged(note: u8) -> bool
 }
 
 // The note with a flag.
+#[tactic(auto, unfolding(crate::specs::packed::Noted::with_flag, crate::specs::packed::Noted::is_flagged))]
 pub fn with_flag(note: u8) -> u8
     ensures { result ≡ with_flag note }
 {
@@ -125,19 +126,19 @@ fn put_note(cards: &mut [u8; CARDS], place: usize, note: u8)
 }
 
 // The note of a form column's byte.
+#[tactic(auto, unfolding(crate::specs::packed::Notes::mark))]
 fn mark_of(byte: u8) -> u8
     ensures { result ≡ mark byte }
 {
-    if byte == b'0' {
-        return ANGLES;
+    match byte {
+        b'0' => ANGLES,
+        b'1' => GRID,
+        _ => NOT_KNOWN,
     }
-    if byte == b'1' {
-        return GRID;
-    }
-    NOT_KNOWN
 }
 
 // A note when one more card is seen.
+#[tactic(auto, unfolding(crate::specs::packed::Notes::noted))]
 fn note_again(old: u8, byte: u8) -> u8
     ensures { result ≡ noted old byte }
 {
@@ -148,25 +149,25 @@ fn note_again(old: u8, byte: u8) -> u8
 }
 
 // The form that a note says.
+#[tactic(auto, unfolding(crate::specs::packed::Notes::told))]
 fn form_told(note: u8) -> Form
     ensures { result ≡ told note }
 {
-    if note == ANGLES {
-        return Form::Angles;
+    match note {
+        ANGLES => Form::Angles,
+        GRID => Form::Grid,
+        _ => Form::Unknown,
     }
-    if note == GRID {
-        return Form::Grid;
-    }
-    Form::Unknown
 }
 
 // Where a vessel's note stands: the grid's stands before them.
 fn place_of(vessel: u8) -> usize
     ensures { (result ≡ 1 + vessel) × (result < note_count) }
 {
-    1 + vessel as usize
+    1 + usize::from(vessel)
 }
 
+#[tactic(auto, unfolding(crate::specs::packed::Notes::note_at))]
 fn note(notes: &mut [u8; NOTES], place: usize, byte: u8)
     requires { place < note_count }
     ensures { notes.new ≡ note_at notes.old place byte }
@@ -175,20 +176,19 @@ fn note(notes: &mut [u8; NOTES], place: usize, byte: u8)
 }
 
 // Notes the form that a card states, if it states one.
+#[tactic(auto, unfolding(crate::specs::packed::Notes::note_card, crate::specs::forms::Cards::byte_in))]
 fn note_card(notes: &mut [u8; NOTES], card: &[u8], layout: usize)
     requires { layout ≡ layout_of card.now }
     ensures { notes.new ≡ note_card notes.old card.now }
 {
-    if layout == H00X8 {
-        note(
+    match layout {
+        H00X8 => note(
             notes,
             place_of(base_lists::byte_at(card, 29)),
             base_lists::byte_at(card, 31),
-        );
-        return;
-    }
-    if layout == H0100 {
-        note(notes, 0, base_lists::byte_at(card, 20));
+        ),
+        H0100 => note(notes, 0, base_lists::byte_at(card, 20)),
+        _ => {}
     }
 }
 
@@ -201,34 +201,24 @@ pub fn notes_of(header: &[u8], cards: &mut [u8; CARDS]) -> [u8; NOTES]
 {
     let table = tables::table();
     let mut notes = [NONE; NOTES];
-    let count = header.len() / CARD;
-    let mut place = 0;
-    while place < count {
-        let from = place * CARD;
-        let card = &header[from..from + CARD];
+    for (place, card) in header.chunks_exact(CARD).enumerate() {
         let layout = layout_of(card);
         put_note(cards, place, card_note(&table, card, layout));
         note_card(&mut notes, card, layout);
-        place += 1;
     }
     notes
 }
 
 // The form of a card's coordinates, by its layout and the header's notes.
+#[tactic(auto, unfolding(crate::specs::packed::Notes::form_by, crate::specs::forms::Cards::byte_in))]
 pub fn form_by(notes: &[u8; NOTES], layout: usize, card: &[u8]) -> Form
     ensures form { result ≡ form_by notes.now layout card.now }
 {
-    if layout == H00X8 {
-        return form_told(mark_of(base_lists::byte_at(card, 31)));
+    match layout {
+        H00X8 => form_told(mark_of(base_lists::byte_at(card, 31))),
+        H00X9 => form_told(notes[place_of(base_lists::byte_at(card, 6))]),
+        H0101 => form_told(notes[0]),
+        H5000 => form_told(mark_of(base_lists::byte_at(card, 28))),
+        _ => Form::Unknown,
     }
-    if layout == H00X9 {
-        return form_told(notes[place_of(base_lists::byte_at(card, 6))]);
-    }
-    if layout == H0101 {
-        return form_told(notes[0]);
-    }
-    if layout == H5000 {
-        return form_told(mark_of(base_lists::byte_at(card, 28)));
-    }
-    Form::Unknown
 }

@@ -7,12 +7,12 @@ use mathlib.Core.List.{List}
 use Rattle.value_text.specs.text.Texts.{printable}
 use Rattle.header_check.specs.forms.Cards.{card_at, cards_in}
 use Rattle.card_field.proofs.seeking.Bytes.{bad-none}
-use Rattle.header_check.specs.declared.Checked.TheVariants.{Accepted}
 use Rattle.header_check.specs.Refusing.{largest, refusal_of}
 use Rattle.header_laws.proofs.Rows.{eighty, fine_exactly}
 use Rattle.header_laws.proofs.Exactly.{accepted_exactly}
+use Rattle.base_refusal.specs.Refusals.{no_refusal}
 
-module _ (h : List ℕ) (accepted : refusal_of h ≡ Accepted) where
+module _ (h : List ℕ) (accepted : refusal_of h ≡ no_refusal) where
   pub few-cards : cards_in h ≤ largest
   few-cards = ((accepted_exactly h).0 accepted).0.few
 

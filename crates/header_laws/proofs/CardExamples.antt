@@ -25,18 +25,20 @@ use Rattle.card_field.specs.judging.Fields.{spelling_of, value_of, held_of, judg
 use Rattle.card_field.specs.needing.Needs.{columns_of, is_blank, any_second, needed_on}
 use Rattle.format_layout.specs.declared.Form.{Form}
 use Rattle.format_layout.specs.declared.Form.TheVariants.{Angles, Grid, Unknown}
-use Rattle.card_check.specs.declared.Verdict.{Verdict}
-use Rattle.card_check.specs.declared.Verdict.TheVariants.{Fine, Offence}
 use Rattle.card_check.specs.Judging.{field_offence, filled_at, gap_offence, column_offence, label_stands, label_offence, offence_at, verdict_at, verdict_from, code_verdict, verdict_of}
+use Rattle.std.specs.Prelude.{Result, Err, ⊤}
+use Rattle.card_check.specs.declared.Offence.{Offence}
+use Rattle.base_refusal.specs.Refusals.{no_refusal}
+use Rattle.card_check.specs.Verdicts.{offending}
 
 -- the verdicts on texts with blanks behind them up to column 80
-abbrev verdicts : Form → List String → List Verdict
+abbrev verdicts : Form → List String → List (Result ⊤ Offence)
 verdicts form [] = []
 verdicts form (t ∷ ts) = verdict_of (take 80 (bytes t ++ replicate 80 32)) form ∷ verdicts form ts
 
 -- labels and gaps: a blank label, a byte behind the label, the leftmost of two offences
 pub labels : verdicts Angles ("H0004" ∷ "H0004Client:" ∷ "H0004Client:x" ∷ "H0110" ∷ "H1410 any text" ∷ "H2110   xy" ∷ [])
-    ≡ Offence 8 6 ∷ Fine ∷ Offence 7 13 ∷ Offence 5 1 ∷ Fine ∷ Offence 9 7 ∷ []
+    ≡ Err (offending 8 6) ∷ no_refusal ∷ Err (offending 7 13) ∷ Err (offending 5 1) ∷ no_refusal ∷ Err (offending 9 7) ∷ []
 unfolding first first_from alike blanks unpadded leading behind value_from point_of figures_of signed_of number_held sign_of number_of_read text_end text_of leading_blank is_leap is_short days_in is_date dated_of date_of padded_of parts_of is_spelled angled_of angle_of bound_of letter_of present_of grid_of text_reading whole_reading number_in reading_of layouts passed_codes byte_fits fits_at fits codes place_in code_at code_of layout_at fields_of label_of in_range first_bad columns_of is_blank spelling_of any_second needed_on value_of held_of judged_of field_offence filled_at gap_offence column_offence label_stands label_offence offence_at verdict_at verdict_from code_verdict verdict_of
 labels = refl
 
@@ -53,16 +55,16 @@ waypoints =
     ∷ []
 
 pub by_angles : verdicts Angles waypoints
-    ≡ Fine ∷ Offence 9 13 ∷ Offence 10 13 ∷ Offence 11 39 ∷ Offence 7 25 ∷ Offence 11 9 ∷ Offence 9 9 ∷ []
+    ≡ no_refusal ∷ Err (offending 9 13) ∷ Err (offending 10 13) ∷ Err (offending 11 39) ∷ Err (offending 7 25) ∷ Err (offending 11 9) ∷ Err (offending 9 9) ∷ []
 unfolding first first_from alike blanks unpadded leading behind value_from point_of figures_of signed_of number_held sign_of number_of_read text_end text_of leading_blank is_leap is_short days_in is_date dated_of date_of padded_of parts_of is_spelled angled_of angle_of bound_of letter_of present_of grid_of text_reading whole_reading number_in reading_of layouts passed_codes byte_fits fits_at fits codes place_in code_at code_of layout_at fields_of label_of in_range first_bad columns_of is_blank spelling_of any_second needed_on value_of held_of judged_of field_offence filled_at gap_offence column_offence label_stands label_offence offence_at verdict_at verdict_from code_verdict verdict_of
 by_angles = refl
 
 pub by_grid : verdicts Grid waypoints
-    ≡ Fine ∷ Offence 9 13 ∷ Fine ∷ Offence 11 39 ∷ Offence 7 25 ∷ Offence 11 9 ∷ Offence 9 9 ∷ []
+    ≡ no_refusal ∷ Err (offending 9 13) ∷ no_refusal ∷ Err (offending 11 39) ∷ Err (offending 7 25) ∷ Err (offending 11 9) ∷ Err (offending 9 9) ∷ []
 unfolding first first_from alike blanks unpadded leading behind value_from point_of figures_of signed_of number_held sign_of number_of_read text_end text_of leading_blank is_leap is_short days_in is_date dated_of date_of padded_of parts_of is_spelled angled_of angle_of bound_of letter_of present_of grid_of text_reading whole_reading number_in reading_of layouts passed_codes byte_fits fits_at fits codes place_in code_at code_of layout_at fields_of label_of in_range first_bad columns_of is_blank spelling_of any_second needed_on value_of held_of judged_of field_offence filled_at gap_offence column_offence label_stands label_offence offence_at verdict_at verdict_from code_verdict verdict_of
 by_grid = refl
 
 pub by_none : verdicts Unknown waypoints
-    ≡ Fine ∷ Fine ∷ Fine ∷ Offence 11 39 ∷ Offence 7 25 ∷ Offence 11 9 ∷ Offence 9 9 ∷ []
+    ≡ no_refusal ∷ no_refusal ∷ no_refusal ∷ Err (offending 11 39) ∷ Err (offending 7 25) ∷ Err (offending 11 9) ∷ Err (offending 9 9) ∷ []
 unfolding first first_from alike blanks unpadded leading behind value_from point_of figures_of signed_of number_held sign_of number_of_read text_end text_of leading_blank is_leap is_short days_in is_date dated_of date_of padded_of parts_of is_spelled angled_of angle_of bound_of letter_of present_of grid_of text_reading whole_reading number_in reading_of layouts passed_codes byte_fits fits_at fits codes place_in code_at code_of layout_at fields_of label_of in_range first_bad columns_of is_blank spelling_of any_second needed_on value_of held_of judged_of field_offence filled_at gap_offence column_offence label_stands label_offence offence_at verdict_at verdict_from code_verdict verdict_of
 by_none = refl

@@ -21,19 +21,17 @@ use Rattle.format_layout.specs.Table.{layouts, passed_codes}
 use Rattle.format_code.specs.Codes.{byte_fits, fits_at, fits, codes, place_in, code_at, code_of}
 use Rattle.format_layout.specs.Layouts.{layout_at, fields_of, label_of}
 use Rattle.format_layout.specs.ranges.Ranges.{in_range}
-use Rattle.base_refusal.specs.Refusals.{refusal}
+use Rattle.base_refusal.specs.Refusals.{refusal, no_refusal}
 use Rattle.value_text.specs.printable.Bytes.{first_bad}
 use Rattle.card_field.specs.judging.Fields.{spelling_of, value_of, held_of, judged_of}
 use Rattle.card_field.specs.needing.Needs.{columns_of, is_blank, any_second, needed_on}
-use Rattle.card_check.specs.Judging.{field_offence, filled_at, gap_offence, column_offence, label_stands, label_offence, offence_at}
-use Rattle.card_check.specs.Judging.{verdict_at as column_verdict, verdict_from, code_verdict, verdict_of}
+use Rattle.card_check.specs.Judging.{field_offence, filled_at, gap_offence, column_offence, label_stands, label_offence, offence_at, verdict_at as column_verdict, verdict_from, code_verdict, verdict_of}
 use Rattle.header_check.specs.forms.Cards.{card_at, cards_in, byte_in, layout_of}
 use Rattle.header_check.specs.forms.Forms.{form_said, only_form, states_line, states_grid, line_form, grid_form, form_of}
-use Rattle.header_check.specs.declared.Checked.{Checked}
-use Rattle.header_check.specs.declared.Checked.TheVariants.{Accepted, Refused}
 use Rattle.header_check.specs.Opening.{code_number, number_before, goes_on, continues, block_end, has_line, stands_at}
-use Rattle.header_check.specs.Refusing.{readable, placed_verdict, end_verdict, verdict_at, offends}
-use Rattle.header_check.specs.Refusing.{answer_for, answer_at, cards_answer, refusal_of}
+use Rattle.header_check.specs.Refusing.{readable, placed_verdict, end_verdict, verdict_at, offends, answer_for, answer_at, cards_answer, refusal_of}
+use Rattle.std.specs.Prelude.{Result, Err, ⊤}
+use Rattle.base_refusal.specs.declared.Refusal.{Refusal}
 
 -- texts as cards, each with blanks behind it up to column 80
 abbrev cards : List String → List ℕ
@@ -58,18 +56,18 @@ twice t = eight ++ cards ("H0018Line Parameters Vessel: 1 1 0996010.250N" ∷ t 
 -- a header and its answer
 pub record Case : Type 0 where
   pub header : List ℕ
-  pub answer : Checked
+  pub answer : Result ⊤ Refusal
 
-abbrev case : List ℕ → Checked → Case
+abbrev case : List ℕ → Result ⊤ Refusal → Case
 case h a = record { header = h; answer = a }
 
-abbrev refused : ℕ → ℕ → ℕ → Checked
-refused n card column = Refused (refusal n card column)
+abbrev refused : ℕ → ℕ → ℕ → Result ⊤ Refusal
+refused n card column = Err (refusal n card column)
 
 abbrev cases : List Case
 cases =
     -- the opening block alone
-    case (base []) Accepted ∷
+    case (base []) no_refusal ∷
     -- the leftmost column decides, whatever its number
     case (base ("H2110   xy" ∷ [])) (refused 9 10 7) ∷
     -- a blank label is an 8, a byte just behind a label a 7; both before cards are missing
@@ -80,11 +78,11 @@ cases =
     case (base ("C0001" ∷ "H0019 1   1" ∷ [])) (refused 6 11 1) ∷
     case (base ("H0004Client:" ∷ [])) (refused 6 10 1) ∷
     -- H00@8 and H00@9 by code number: vessel by vessel, equal codes; not all H00@8 before any H00@9
-    case (base ("H0019 1   1" ∷ "H0028Line Parameters Vessel: 2 1" ∷ "H0029 2   1" ∷ "H0029 2   2" ∷ "C0001" ∷ [])) Accepted ∷
+    case (base ("H0019 1   1" ∷ "H0028Line Parameters Vessel: 2 1" ∷ "H0029 2   1" ∷ "H0029 2   2" ∷ "C0001" ∷ [])) no_refusal ∷
     case (base ("H0028Line Parameters Vessel: 2 1" ∷ "H0019 1   1" ∷ [])) (refused 6 11 1) ∷
     case (base ("H0009 0   1" ∷ [])) (refused 6 10 1) ∷
     -- an H00@9 needs no H00@8 before it, but the block does: else its first card behind it is out of place, or its end
-    case (eight ++ cards ("H0009 0   1" ∷ "H0018Line Parameters Vessel: 1 1" ∷ [])) Accepted ∷
+    case (eight ++ cards ("H0009 0   1" ∷ "H0018Line Parameters Vessel: 1 1" ∷ [])) no_refusal ∷
     case (eight ++ cards ("H0019 1   1" ∷ "C0001" ∷ [])) (refused 6 10 1) ∷
     case (eight ++ cards ("H0019 1   1" ∷ "E1000" ∷ [])) (refused 5 10 1) ∷
     case (eight ++ cards ("H0019 1   1" ∷ [])) (refused 6 10 1) ∷
@@ -96,22 +94,22 @@ cases =
     -- a byte that is not printable on a passed card
     case (base [] ++ bytes "H1410" ++ replicate 74 32 ++ (127 ∷ [])) (refused 4 10 80) ∷
     -- coordinates of a vessel that has no H00@8 are passed over, the gaps beside them not
-    case (base ("H0039 3   1 no latitude " ∷ [])) Accepted ∷
+    case (base ("H0039 3   1 no latitude " ∷ [])) no_refusal ∷
     case (base ("H0039 3   1xno latitude " ∷ [])) (refused 7 10 12) ∷
     -- a gap makes no second set present, a coordinate that is passed over does
     case (base ("H0039 3   1                              x" ∷ [])) (refused 7 10 42) ∷
     case (base ("H0039 3   1                               no latitude " ∷ [])) (refused 11 10 39) ∷
     -- the form of the only H00@8 with the vessel: form 1, then two of them, one of them later and out of place
-    case (base ("H0029 1   1 0996010.250N" ∷ [])) Accepted ∷
+    case (base ("H0029 1   1 0996010.250N" ∷ [])) no_refusal ∷
     case (base ("H0019 1   1 no latitude " ∷ [])) (refused 9 10 13) ∷
-    case (base ("H0028Line Parameters Vessel: 1 0" ∷ "H0029 1   1 no latitude " ∷ [])) Accepted ∷
+    case (base ("H0028Line Parameters Vessel: 1 0" ∷ "H0029 1   1 no latitude " ∷ [])) no_refusal ∷
     case (base ("H0019 1   1 no latitude " ∷ "C0001" ∷ "H0028Line Parameters Vessel: 1 0" ∷ [])) (refused 6 12 1) ∷
     -- the grid may stand behind its points; two of them state nothing
-    case (base ("H0101    5 0996010.250N" ∷ "H0100               1" ∷ [])) Accepted ∷
+    case (base ("H0101    5 0996010.250N" ∷ "H0100               1" ∷ [])) no_refusal ∷
     case (base ("H0101    5 0996010.250N" ∷ "H0100               0" ∷ [])) (refused 10 10 12) ∷
-    case (base ("H0101    5 no latitude " ∷ "H0100               0" ∷ "H0100               0" ∷ [])) Accepted ∷
+    case (base ("H0101    5 no latitude " ∷ "H0100               0" ∷ "H0100               0" ∷ [])) no_refusal ∷
     -- an H00@8 reads its own coordinates by its own form, also where two have one vessel
-    case (twice "H0028Line Parameters Vessel: 1 0 0523010.250N") Accepted ∷
+    case (twice "H0028Line Parameters Vessel: 1 0 0523010.250N") no_refusal ∷
     case (twice "H0028Line Parameters Vessel: 1 0 0996010.250N") (refused 10 10 34) ∷
     -- lengths
     case [] (refused 1 0 0) ∷

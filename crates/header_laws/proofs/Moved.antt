@@ -14,17 +14,17 @@ use Rattle.base_lists.specs.Count.{count, first, Rearranged}
 use Rattle.base_lists.proofs.Counting.{count_one, count_same}
 use Rattle.base_lists.proofs.Moving.{Placed, all_stay, back, count-placed, placed_le}
 use Rattle.base_lists.proofs.Finding.{first_passes, first_same, first_cut}
-use Rattle.card_check.specs.declared.Verdict.TheVariants.{Fine, Offence}
 use Rattle.header_check.specs.forms.Cards.{card_at, cards_in, byte_in, layout_of}
 use Rattle.format_layout.specs.Names.{H00X8, H00X9, H0100}
 use Rattle.header_check.specs.forms.Forms.{form_said, only_form, states_line, states_grid, line_form, grid_form, form_of}
-use Rattle.header_check.specs.declared.Checked.TheVariants.{Accepted}
 use Rattle.header_check.specs.Opening.{code_number, number_before, continues, block_end, has_line, stands_at}
 use Rattle.header_check.specs.Refusing.{verdict_at, refusal_of}
 use Rattle.header_check.proofs.Block.{block_le, in_block}
 use Rattle.header_laws.proofs.Exactly.{Sized, Fine-throughout, accepted_exactly}
 use Rattle.header_laws.proofs.Rows.{fine_exactly, past_exactly}
 use Rattle.header_laws.proofs.Opens.{there, never, Opens, opens_exactly}
+use Rattle.base_refusal.specs.Refusals.{no_refusal}
+use Rattle.card_check.proofs.Verdicts.{not_fine}
 
 -- the form that the only card says, when those that stay are placed anew and no other says any
 only-placed : {stays : ℕ → Bool} {n m : ℕ} (π : Placed stays n m) (p q : ℕ → Bool) (a b : ℕ → ℕ)
@@ -69,11 +69,8 @@ pub record Moved (h h' : List ℕ) : Type 0 where
   pub kept : (c : ℕ) → c < end → order.to c ≡ c
   pub behind : (c : ℕ) → end ≤ c → c < cards_in h → H00X9 < layout_of (card_at h c)
 
-not_fine : (n column : ℕ) → Offence n column ≡ Fine → ⊥
-not_fine n column q = let z : ◌≡◌ {A = ℕ} 0 1 = cc in omega arith
-
 -- an accepted header opens with a block
-pub accepted-opens : (h : List ℕ) → refusal_of h ≡ Accepted → Opens h
+pub accepted-opens : (h : List ℕ) → refusal_of h ≡ no_refusal → Opens h
 accepted-opens h a = (opens_exactly h).0 (λ c l. stands c l, lined (has_line h) refl)
   where
     fine : Fine-throughout h
@@ -81,7 +78,7 @@ accepted-opens h a = (opens_exactly h).0 (λ c l. stands c l, lined (has_line h)
 
     lined : (b : Bool) → has_line h ≡ b → b ≡ true
     lined true e = refl
-    lined false e = absurd (not_fine 6 1 (sym ((past_exactly h 6 1).1 (e, refl, refl)) ∙ fine (cards_in h) (omega arith)))
+    lined false e = absurd (not_fine 6 1 (sym (fine (cards_in h) (omega arith)) ∙ (past_exactly h 6 1).1 (e, refl, refl)))
 
     stands : (c : ℕ) → c < cards_in h → stands_at h c ≡ true
     stands c l = ((fine_exactly h c l).0 (fine c (omega arith))).stands
@@ -220,14 +217,14 @@ module _ (h h' : List ℕ) (m : Moved h h') where
   ]
 
   -- the first card of an accepted header stays
-  some-there : refusal_of h ≡ Accepted → 0 < cards_in h'
+  some-there : refusal_of h ≡ no_refusal → 0 < cards_in h'
   some-there a = let o = accepted-opens h a in elim (dec_lt 0 m.end) [
     | yes l ↦ omega (arith, inside-there)
     | no l ↦ absurd (omega (arith, o.eight 0 (omega arith), m.behind 0 (omega arith) (omega (arith, o.line_below, o.inside))))
   ]
 
   -- so a header that was accepted still is
-  pub accepted-there : refusal_of h ≡ Accepted → refusal_of h' ≡ Accepted
+  pub accepted-there : refusal_of h ≡ no_refusal → refusal_of h' ≡ no_refusal
   unfolding cards_in
   accepted-there a =
       let e = (accepted_exactly h).0 a in
@@ -256,13 +253,13 @@ module _ (h h' : List ℕ) (m : Moved h h') (all : (c : ℕ) → c < cards_in h 
   }
 
   -- and one is accepted exactly where the other is
-  pub accepted-moved : (refusal_of h ≡ Accepted) ↔ (refusal_of h' ≡ Accepted)
+  pub accepted-moved : (refusal_of h ≡ no_refusal) ↔ (refusal_of h' ≡ no_refusal)
   accepted-moved = (accepted-there h h' m, accepted-there h' h moved_back)
 
 -- the cards behind the opening block of an accepted header, in any other order, are accepted too
-pub accepted_rearranged : (h h' : List ℕ) (a : refusal_of h ≡ Accepted) (π : Rearranged (cards_in h)) → length h' ≡ length h
+pub accepted_rearranged : (h h' : List ℕ) (a : refusal_of h ≡ no_refusal) (π : Rearranged (cards_in h)) → length h' ≡ length h
     → ((c : ℕ) → c < cards_in h → card_at h' (π.to c) ≡ card_at h c)
-    → ((c : ℕ) → c < (accepted-opens h a).end → π.to c ≡ c) → refusal_of h' ≡ Accepted
+    → ((c : ℕ) → c < (accepted-opens h a).end → π.to c ≡ c) → refusal_of h' ≡ no_refusal
 unfolding cards_in
 accepted_rearranged h h' a π same card kept = accepted-there h h' (record {
   stays = λ c. true;

@@ -20,12 +20,13 @@ use Rattle.format_layout.specs.Table.{layouts}
 use Rattle.format_layout.specs.Layouts.{layout_at}
 use Rattle.format_layout.specs.packed.Rows.{layout_count}
 use Rattle.format_layout.specs.Names.{H00X8, H00X9}
-use Rattle.card_check.specs.declared.Verdict.TheVariants.{Offence}
 use Rattle.header_check.specs.forms.Cards.{card_at, cards_in, byte_in, layout_of}
 use Rattle.header_check.specs.Opening.{first_cards, code_number, number_before, goes_on, continues, block_end, has_line, stands_at}
 use Rattle.header_check.specs.Refusing.{readable, placed_verdict, end_verdict, verdict_at}
 use Rattle.header_check.proofs.Block.{block_le, in_block}
 use Rattle.header_check.proofs.forms.Named.{coded_exactly}
+use Rattle.std.specs.Prelude.{Err}
+use Rattle.card_check.specs.Verdicts.{offending}
 
 -- where one passes, the first that does is below n
 pub there : (p : ℕ → Bool) (n : ℕ) → 0 < count p n → first p n < n
@@ -213,6 +214,6 @@ module _ (h : List ℕ) where
 
   -- a block without H00@8: the first card behind it is a 6, behind its own 4 and 5; where there is none, the place past the end is
   pub without-line : has_line h ≡ false → verdict_at h (block_end h)
-      ≡ cond (ltb (block_end h) (cards_in h)) (readable (card_at h (block_end h)) (Offence 6 1)) (Offence 6 1)
+      ≡ cond (ltb (block_end h) (cards_in h)) (readable (card_at h (block_end h)) (Err (offending 6 1))) (Err (offending 6 1))
   unfolding verdict_at end_verdict placed_verdict stands_at
   without-line e = rw (e, le-ltb (block_end h) (block_end h) (omega arith))

@@ -8,8 +8,7 @@ use lib.ListN.{length, get_or, take}
 use borrow.Author.Tests.{eq-eqb, ne_eqb, le-ltb, le-leb, lt-leb}
 use Rattle.base_value.specs.declared.Value.{Value}
 use Rattle.base_value.specs.declared.Value.TheVariants.{Absent, Whole, Decimal, Angle, Date, Text}
-use Rattle.base_value.specs.declared.Reading.{Reading}
-use Rattle.base_value.specs.declared.Reading.TheVariants as reading
+use Rattle.base_value.specs.declared.Unread.TheVariants as unread
 use Rattle.value_text.specs.printable.Bytes.{first_bad}
 use Rattle.value_field.specs.spelling.Reading.{reading_of}
 use Rattle.format_code.specs.declared.Code.{Code}
@@ -20,28 +19,28 @@ use Rattle.format_layout.specs.declared.Kind.TheVariants as kind
 use Rattle.format_layout.specs.declared.Field.{Field}
 use Rattle.format_layout.specs.declared.Form.{Form}
 use Rattle.format_layout.specs.declared.Form.TheVariants.{Angles}
-use Rattle.format_layout.specs.declared.Found.TheVariants as found
 use Rattle.format_layout.specs.Forms.{is_open, form_numbered}
 use Rattle.format_layout.specs.Layouts.{fields_of, field_of, label_of, no_field}
 use Rattle.format_layout.specs.ranges.Ranges.{in_range}
 use Rattle.format_layout.proofs.Columns.{after_label, ends-before}
 use Rattle.format_layout.proofs.Numbers.{numbered, found_lies}
-use Rattle.card_field.specs.declared.seeking.Sought.TheVariants as sought
-use Rattle.card_field.specs.declared.judging.Judged.TheVariants as judged
-use Rattle.card_field.specs.declared.FieldRead.TheVariants as read
 use Rattle.card_field.specs.seeking.Card.{coded, sought_of}
 use Rattle.card_field.specs.needing.Needs.{needed_on, columns_of}
 use Rattle.card_field.specs.judging.Fields.{spelling_of, value_of, held_of, judged_of, number_of, misplaced_on}
 use Rattle.card_field.specs.Reading.{answered_of, field_on, field_reading}
 use Rattle.card_field.proofs.seeking.Steps.{form_good, sought_coded}
 use Rattle.card_check.specs.Judging.{is_coordinate, field_offence, column_offence, offence_at}
-use Rattle.header_check.specs.declared.Checked.TheVariants.{Accepted}
 use Rattle.header_check.specs.forms.Cards.{card_at, cards_in, layout_of, unread, number_of as layout_number}
 use Rattle.header_check.specs.forms.Forms.{form_of}
 use Rattle.header_check.specs.Opening.{stands_at}
 use Rattle.header_check.specs.Refusing.{refusal_of}
 use Rattle.header_laws.proofs.Rows.{Clean, eighty, fine_exactly}
 use Rattle.header_laws.proofs.Exactly.{accepted_exactly}
+use Rattle.std.specs.Prelude.{Result, Ok, Err, Some}
+use Rattle.base_value.specs.declared.Unread.{Unread}
+use Rattle.card_field.specs.Fields.{field_read}
+use Rattle.base_refusal.specs.Refusals.{no_refusal}
+use Rattle.card_field.specs.seeking.Found.{sought}
 
 -- the offence of a field stands at its first column: no field before it reaches there
 module _ (k : ℕ) (form : Form) (s : List ℕ) where
@@ -57,7 +56,7 @@ module _ (k : ℕ) (form : Form) (s : List ℕ) where
       rw (ne_eqb c f.first (λ e. omega (arith, b.0, b.1, e)), lt-leb c f.last b.1, le-leb f.first c (omega (arith, b.0, b.1)))
       (at_begin fs i (omega arith) (λ j m. before (suc j) (omega arith)))
 
-  pub field-offence : (n : ℕ) (f : Field) → field_of k n ≡ found.Is f → offence_at k form s f.first ≡ field_offence k form s f
+  pub field-offence : (n : ℕ) (f : Field) → field_of k n ≡ Some f → offence_at k form s f.first ≡ field_offence k form s f
   unfolding offence_at
   field-offence n f e =
       let m = numbered k n f e in
@@ -80,27 +79,27 @@ same_spelling kind.Latitude form e = absurd (let z : ◌≡◌ {A = ℕ} 0 1 = c
 same_spelling kind.Longitude form e = absurd (let z : ◌≡◌ {A = ℕ} 0 1 = cc in omega arith)
 
 -- a field without an offence says a value, misplaced or not
-says_value : (needed left : Bool) (f : Field) (r : Reading) → number_of (held_of needed f r) ≡ 0
-    → (v : Value) × (answered_of f left (held_of needed f r) ≡ read.Is v left)
+says_value : (needed left : Bool) (f : Field) (r : Result Value Unread) → number_of (held_of needed f r) ≡ 0
+    → (v : Value) × (answered_of f left (held_of needed f r) ≡ Ok (field_read v left))
 unfolding held_of value_of answered_of
-says_value needed left f reading.Malformed e = absurd (omega arith)
-says_value needed left f reading.OutOfRange e = absurd (omega arith)
-says_value needed left f (reading.Held Absent) e = go needed e
+says_value needed left f (Err unread.Malformed) e = absurd (omega arith)
+says_value needed left f (Err unread.OutOfRange) e = absurd (omega arith)
+says_value needed left f (Ok Absent) e = go needed e
   where
-    go : (b : Bool) → number_of (cond b (judged.Not 11) (judged.Is Absent)) ≡ 0
-        → (v : Value) × (answered_of f left (cond b (judged.Not 11) (judged.Is Absent)) ≡ read.Is v left)
+    go : (b : Bool) → number_of (cond b (Err 11) (Ok Absent)) ≡ 0
+        → (v : Value) × (answered_of f left (cond b (Err 11) (Ok Absent)) ≡ Ok (field_read v left))
     go true e = absurd (omega arith)
     go false e = (Absent, refl)
-says_value needed left f (reading.Held (Whole z)) e = go (in_range f.range z) e
+says_value needed left f (Ok (Whole z)) e = go (in_range f.range z) e
   where
-    go : (b : Bool) → number_of (cond b (judged.Is (Whole z)) (judged.Not 10)) ≡ 0
-        → (v : Value) × (answered_of f left (cond b (judged.Is (Whole z)) (judged.Not 10)) ≡ read.Is v left)
+    go : (b : Bool) → number_of (cond b (Ok (Whole z)) (Err 10)) ≡ 0
+        → (v : Value) × (answered_of f left (cond b (Ok (Whole z)) (Err 10)) ≡ Ok (field_read v left))
     go true e = (Whole z, refl)
     go false e = absurd (omega arith)
-says_value needed left f (reading.Held (Decimal d)) e = (Decimal d, refl)
-says_value needed left f (reading.Held (Angle z)) e = (Angle z, refl)
-says_value needed left f (reading.Held (Date d)) e = (Date d, refl)
-says_value needed left f (reading.Held (Text c)) e = (_, refl)
+says_value needed left f (Ok (Decimal d)) e = (Decimal d, refl)
+says_value needed left f (Ok (Angle z)) e = (Angle z, refl)
+says_value needed left f (Ok (Date d)) e = (Date d, refl)
+says_value needed left f (Ok (Text c)) e = (_, refl)
 
 -- the code of a card that a layout reads
 coded_by : (c : Code) (k : ℕ) → layout_number c ≡ k → k < unread → c ≡ code.Read k
@@ -108,17 +107,17 @@ coded_by (code.Read m) k e l = ap code.Read e
 coded_by code.Passed k e l = absurd (omega arith)
 coded_by code.Unknown k e l = absurd (omega arith)
 
-module _ (h : List ℕ) (a : refusal_of h ≡ Accepted) (c : ℕ) (l : c < cards_in h) where
+module _ (h : List ℕ) (a : refusal_of h ≡ no_refusal) (c : ℕ) (l : c < cards_in h) where
   clean : Clean (card_at h c) (form_of h (card_at h c)) (stands_at h c)
   clean = (fine_exactly h c l).0 (((accepted_exactly h).0 a).1 c (omega arith))
 
-  module _ (k : ℕ) (is : layout_of (card_at h c) ≡ k) (read_by_lem : k < unread) (n : ℕ) (f : Field) (e : field_of k n ≡ found.Is f) where
+  module _ (k : ℕ) (is : layout_of (card_at h c) ≡ k) (read_by_lem : k < unread) (n : ℕ) (f : Field) (e : field_of k n ≡ Some f) where
     code_is : code_of (take 5 (card_at h c)) ≡ code.Read k
     unfolding layout_of
     code_is = coded_by (code_of (take 5 (card_at h c))) k is read_by_lem
 
     -- the field with a number is found on the card
-    pub field_found : sought_of (card_at h c) n 0 ≡ sought.Is k f
+    pub field_found : sought_of (card_at h c) n 0 ≡ Ok (sought k f)
     unfolding coded
     field_found =
         sought_coded (card_at h c) n 0 (λ z. omega (arith, eighty h c l, z)) (eighty h c l) (first_bad (card_at h c)) refl clean.printable
@@ -142,7 +141,7 @@ module _ (h : List ℕ) (a : refusal_of h ≡ Accepted) (c : ℕ) (l : c < cards
 
     -- and its reading is a value, and says whether that is misplaced
     pub field-read : is_coordinate f.kind ≡ false
-        → (v : Value) × (field_reading (card_at h c) n 0 ≡ read.Is v (misplaced_on (card_at h c) f Angles))
+        → (v : Value) × (field_reading (card_at h c) n 0 ≡ Ok (field_read v (misplaced_on (card_at h c) f Angles)))
     unfolding field_reading field_on judged_of form_numbered
     field-read o =
         let r = says_value (needed_on k (card_at h c) f) (misplaced_on (card_at h c) f Angles) f (reading_of (spelling_of f.kind Angles) (columns_of f (card_at h c))) (no_offence o) in

@@ -2,7 +2,6 @@
 #![tactic(auto)]
 
 use crew_answer::lines;
-use crew_io::input::Input;
 use crew_io::{failure, input};
 
 // The longest header that the program takes, and one card more to notice a longer one.
@@ -19,9 +18,8 @@ fn reply(rt: &HostRuntime, header: &[u8]) {
 
 fn main(rt: HostRuntime) {
     let mut buf = [0u8; ROOM];
-    let input = input::read_all(&mut rt.stdin(), &mut buf);
-    match input {
-        Input::Whole(n) => reply(&rt, &buf[..n]),
-        Input::Failed(why) => failure::tell(rt.stderr(), b"linecheck: standard input", why),
+    match input::read_all(&mut rt.stdin(), &mut buf) {
+        Ok(n) => reply(&rt, &buf[..n]),
+        Err(why) => failure::tell(rt.stderr(), b"linecheck: standard input", why),
     }
 }

@@ -4,10 +4,7 @@
 mod words;
 
 use base_refusal::{Refusal, TOO_MANY, refuse};
-use crew_io::input::Input;
 use crew_io::{argument, failure, input};
-use media_diskette::Converted;
-use media_ebcdic::Translated;
 
 // The forms that can be asked for.
 #[derive(Drop)]
@@ -16,7 +13,6 @@ enum Form {
     Cards,
     Ascii,
     Ebcdic,
-    Other,
 }
 
 // The most cards and lines of a header; the longest header; the longest file of so many lines.
@@ -34,21 +30,15 @@ const CARDS: usize = HEADER + 80;
 // The longest argument.
 const WORD: usize = 16;
 
-// The form that an argument names.
-fn form_of(word: &[u8]) -> Form {
-    if base_lists::same(word, b"disk") {
-        return Form::Disk;
+// The form that an argument names, if it names one.
+fn form_of(word: &[u8]) -> Option<Form> {
+    match word {
+        b"disk" => Some(Form::Disk),
+        b"cards" => Some(Form::Cards),
+        b"ascii" => Some(Form::Ascii),
+        b"ebcdic" => Some(Form::Ebcdic),
+        _ => None,
     }
-    if base_lists::same(word, b"cards") {
-        return Form::Cards;
-    }
-    if base_lists::same(word, b"ascii") {
-        return Form::Ascii;
-    }
-    if base_lists::same(word, b"ebcdic") {
-        return Form::Ebcdic;
-    }
-    Form::Other
 }
 
 // Writes what was converted.
@@ -60,10 +50,7 @@ fn write(rt: &HostRuntime, out: &[u8]) {
 
 // As much of the input as tells of cards whether there are too many.
 fn cards_in(input: &[u8]) -> &[u8] {
-    if CARDS < input.len() {
-        return &input[..CARDS];
-    }
-    input
+    &input[..input.len().min(CARDS)]
 }
 
 // Writes cards as a diskette file.
@@ -71,15 +58,14 @@ fn to_disk(rt: &HostRuntime, input: &[u8]) {
     let mut out = [0u8; FILE];
     let done = media_diskette::to_diskette(cards_in(input), &mut out);
     match done {
-        Converted::Length(n) => write(rt, &out[..n]),
-        Converted::Refused(r) => words::tell(rt.stderr(), r, b"card "),
+        Ok(n) => write(rt, &out[..n]),
+        Err(r) => words::tell(rt, r, "card "),
     }
 }
 
 // A refusal behind the last line that a header may have is told as too many lines: a longer file was not read to its end.
 fn within(r: Refusal) -> Refusal {
-    let line = r.card;
-    if LINES < line {
+    if LINES < r.card {
         return refuse(TOO_MANY, 0, 0);
     }
     r
@@ -90,8 +76,8 @@ fn to_cards(rt: &HostRuntime, input: &[u8]) {
     let mut out = [0u8; HEADER];
     let done = media_diskette::from_diskette(input, &mut out);
     match done {
-        Converted::Length(n) => write(rt, &out[..n]),
-        Converted::Refused(r) => words::tell(rt.stderr(), within(r), b"line "),
+        Ok(n) => write(rt, &out[..n]),
+        Err(r) => words::tell(rt, within(r), "line "),
     }
 }
 
@@ -100,8 +86,8 @@ fn to_ascii(rt: &HostRuntime, input: &[u8]) {
     let mut out = [0u8; FILE];
     let done = media_ebcdic::to_ascii(input, &mut out);
     match done {
-        Translated::Done(n) => write(rt, &out[..n]),
-        Translated::Refused(r) => words::tell(rt.stderr(), r, b""),
+        Ok(n) => write(rt, &out[..n]),
+        Err(r) => words::tell(rt, r, ""),
     }
 }
 
@@ -110,22 +96,21 @@ fn to_ebcdic(rt: &HostRuntime, input: &[u8]) {
     let mut out = [0u8; FILE];
     let done = media_ebcdic::to_ebcdic(input, &mut out);
     match done {
-        Translated::Done(n) => write(rt, &out[..n]),
-        Translated::Refused(r) => words::tell(rt.stderr(), r, b""),
+        Ok(n) => write(rt, &out[..n]),
+        Err(r) => words::tell(rt, r, ""),
     }
 }
 
 // Writes the input in a form.
-fn convert(rt: &HostRuntime, form: Form, input: &[u8]) {
+fn convert(rt: &HostRuntime, form: Option<Form>, input: &[u8]) {
     match form {
-        Form::Disk => to_disk(rt, input),
-        Form::Cards => to_cards(rt, input),
-        Form::Ascii => to_ascii(rt, input),
-        Form::Ebcdic => to_ebcdic(rt, input),
-        Form::Other => words::say(
-            rt.stderr(),
-            b"lineform: usage: lineform disk|cards|ascii|ebcdic\n",
-        ),
+        Some(Form::Disk) => to_disk(rt, input),
+        Some(Form::Cards) => to_cards(rt, input),
+        Some(Form::Ascii) => to_ascii(rt, input),
+        Some(Form::Ebcdic) => to_ebcdic(rt, input),
+        None => {
+            let _ = eprintln!(rt; "lineform: usage: lineform disk|cards|ascii|ebcdic");
+        }
     }
 }
 
@@ -134,9 +119,8 @@ fn main(rt: HostRuntime) {
     let size = argument::word(&rt, 1, &mut word);
     let form = form_of(&word[..size]);
     let mut buf = [0u8; ROOM];
-    let input = input::read_all(&mut rt.stdin(), &mut buf);
-    match input {
-        Input::Whole(n) => convert(&rt, form, &buf[..n]),
-        Input::Failed(why) => failure::tell(rt.stderr(), b"lineform: standard input", why),
+    match input::read_all(&mut rt.stdin(), &mut buf) {
+        Ok(n) => convert(&rt, form, &buf[..n]),
+        Err(why) => failure::tell(rt.stderr(), b"lineform: standard input", why),
     }
 }

@@ -6,18 +6,10 @@
 mod words;
 
 use base_digits::digits;
-use base_value::{Decimal, Reading, Value};
-use crew_io::input::Input;
+use base_refusal::Refusal;
+use base_value::{Decimal, Value};
 use crew_io::{argument, failure, input};
-use survey_compass::Heading;
 use value_number::{number, number_entry};
-
-// What an argument is as a number.
-#[derive(Drop)]
-enum Given {
-    Number(Decimal),
-    Not,
-}
 
 // The longest argument.
 const WORD: usize = 32;
@@ -25,20 +17,16 @@ const WORD: usize = 32;
 // The columns for a heading, more than any has.
 const COLUMNS: usize = 24;
 
-// The number that bytes are; pointed says whether a point may stand in it.
-fn number_in(word: &[u8], pointed: bool) -> Given {
-    let reading = number::read_number(word, pointed);
-    let Reading::Held(value) = reading else {
-        return Given::Not;
+// The number that bytes are, if they are one; pointed says whether a point may stand in it.
+fn number_in(word: &[u8], pointed: bool) -> Option<Decimal> {
+    let Ok(Value::Decimal(d)) = number::read_number(word, pointed) else {
+        return None;
     };
-    if let Value::Decimal(d) = value {
-        return Given::Number(d);
-    }
-    Given::Not
+    Some(d)
 }
 
-// The number that an argument is.
-fn argument(rt: &HostRuntime, place: usize, pointed: bool) -> Given {
+// The number that an argument is, if it is one.
+fn argument(rt: &HostRuntime, place: usize, pointed: bool) -> Option<Decimal> {
     let mut word = [0u8; WORD];
     let size = argument::word(rt, place, &mut word);
     number_in(&word[..size], pointed)
@@ -62,45 +50,35 @@ fn write(rt: &HostRuntime, heading: Decimal) {
 }
 
 // Writes a heading, or says why there is none.
-fn tell(rt: &HostRuntime, heading: Heading) {
+fn tell(rt: &HostRuntime, heading: Result<Decimal, Refusal>) {
     match heading {
-        Heading::Is(d) => write(rt, d),
-        Heading::Refused(r) => words::tell(rt.stderr(), r),
+        Ok(d) => write(rt, d),
+        Err(r) => words::tell(rt, r),
     }
 }
 
 // Answers for a header.
 fn answer(rt: &HostRuntime, header: &[u8]) {
-    let raw = argument(rt, 2, true);
-    let Given::Number(raw) = raw else {
-        words::say(
-            rt.stderr(),
-            b"lineheading: the raw reading is no number, like 123.45\n",
-        );
+    let Some(raw) = argument(rt, 2, true) else {
+        let _ = eprintln!(rt; "lineheading: the raw reading is no number, like 123.45");
         return;
     };
-    let direction = argument(rt, 3, false);
-    let Given::Number(direction) = direction else {
-        words::say(
-            rt.stderr(),
-            b"lineheading: the direction is no whole number, like 90\n",
-        );
+    let Some(direction) = argument(rt, 3, false) else {
+        let _ = eprintln!(rt; "lineheading: the direction is no whole number, like 90");
         return;
     };
     let mut serial = [0u8; WORD];
     let size = argument::word(rt, 1, &mut serial);
-    let whole = direction.units;
     tell(
         rt,
-        survey_compass::find_heading(header, &serial[..size], raw, whole),
+        survey_compass::find_heading(header, &serial[..size], raw, direction.units),
     );
 }
 
 fn main(rt: HostRuntime) {
     let mut buf = input::room();
-    let input = input::read_all(&mut rt.stdin(), &mut buf);
-    match input {
-        Input::Whole(n) => answer(&rt, &buf[..n]),
-        Input::Failed(why) => failure::tell(rt.stderr(), b"lineheading: standard input", why),
+    match input::read_all(&mut rt.stdin(), &mut buf) {
+        Ok(n) => answer(&rt, &buf[..n]),
+        Err(why) => failure::tell(rt.stderr(), b"lineheading: standard input", why),
     }
 }

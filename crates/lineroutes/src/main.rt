@@ -4,19 +4,20 @@
 ghost use Rattle.std.specs.Prelude.{◌<◌};
 
 use base_refusal::{DATUM_TWICE, Refusal};
-use crew_io::input::Input;
 use crew_io::page::Page;
 use crew_io::{failure, input, page};
+use survey_datums::UNDEFINED;
 use survey_datums::routing::{CARDS, DATUMS, NO_ROUTE, SHIFTS};
-use survey_datums::{Answer, UNDEFINED};
 
 const PAGE: usize = 4096;
 
 // Shows why no routes are told.
 fn show_refused(out: &mut Page<'_>, header: &[u8], refusal: Refusal) -> usize {
-    let number = refusal.number;
-    let card = refusal.card;
-    let column = refusal.column;
+    let Refusal {
+        number,
+        card,
+        column,
+    } = refusal;
     let said = page::push_form(
         out,
         0,
@@ -36,9 +37,10 @@ fn show_refused(out: &mut Page<'_>, header: &[u8], refusal: Refusal) -> usize {
 fn far_end(card: &[u8], datum: u8) -> u8 {
     let from = base_lists::byte_at(card, 6);
     if from == datum {
-        return base_lists::byte_at(card, 8);
+        base_lists::byte_at(card, 8)
+    } else {
+        from
     }
-    from
 }
 
 // Puts a step of a route: its card, and the datum that it leads to.
@@ -59,15 +61,10 @@ fn push_route(
 {
     let mut end = n;
     let mut at = b'1' + datum as u8;
-    let mut step = 0;
-    while step < SHIFTS {
-        let card = cards[datum * SHIFTS + step];
-        if card == 0 {
-            return end;
-        }
-        at = far_end(page::card_in(header, card as usize), at);
-        end = push_step(out, end, card, at);
-        step += 1;
+    let route = &cards[datum * SHIFTS..(datum + 1) * SHIFTS];
+    for card in route.iter().take_while(|card| **card != 0) {
+        at = far_end(page::card_in(header, *card as usize), at);
+        end = push_step(out, end, *card, at);
     }
     end
 }
@@ -84,16 +81,16 @@ fn push_datum(
     requires { datum < 9 }
 {
     let number = datum as u64 + 1;
-    if shifts == UNDEFINED {
-        return n;
+    match shifts {
+        UNDEFINED => n,
+        NO_ROUTE => page::push_form(out, n, b"datum #: no route\n", number, 0, 0),
+        _ => {
+            let words = b"datum #: shifts #, #";
+            let told = page::push_form(out, n, words, number, u64::from(shifts), number);
+            let end = push_route(out, told, header, cards, datum);
+            page::push(out, end, b'\n')
+        }
     }
-    if shifts == NO_ROUTE {
-        return page::push_form(out, n, b"datum #: no route\n", number, 0, 0);
-    }
-    let words = b"datum #: shifts #, #";
-    let told = page::push_form(out, n, words, number, shifts as u64, number);
-    let end = push_route(out, told, header, cards, datum);
-    page::push(out, end, b'\n')
 }
 
 // Shows the routes of all datums.
@@ -104,10 +101,8 @@ fn show_routes(
     cards: [u32; CARDS],
 ) -> usize {
     let mut end = 0;
-    let mut datum = 0;
-    while datum < DATUMS {
-        end = push_datum(out, end, header, shifts[datum], cards, datum);
-        datum += 1;
+    for (datum, number) in shifts.iter().enumerate() {
+        end = push_datum(out, end, header, *number, cards, datum);
     }
     end
 }
@@ -119,8 +114,8 @@ fn show(out: &mut Page<'_>, header: &[u8]) -> usize {
     let cards = routes.cards;
     let answer = routes.answer;
     match answer {
-        Answer::Told => show_routes(out, header, shifts, cards),
-        Answer::Refused(refusal) => show_refused(out, header, refusal),
+        Ok(()) => show_routes(out, header, shifts, cards),
+        Err(refusal) => show_refused(out, header, refusal),
     }
 }
 
@@ -136,9 +131,8 @@ fn reply(rt: &HostRuntime, header: &[u8]) {
 
 fn main(rt: HostRuntime) {
     let mut buf = input::room();
-    let input = input::read_all(&mut rt.stdin(), &mut buf);
-    match input {
-        Input::Whole(n) => reply(&rt, &buf[..n]),
-        Input::Failed(why) => failure::tell(rt.stderr(), b"lineroutes: standard input", why),
+    match input::read_all(&mut rt.stdin(), &mut buf) {
+        Ok(n) => reply(&rt, &buf[..n]),
+        Err(why) => failure::tell(rt.stderr(), b"lineroutes: standard input", why),
     }
 }

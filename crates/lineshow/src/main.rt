@@ -4,11 +4,9 @@
 use base_refusal::Refusal;
 use crew_answer::lines;
 use crew_fault::places;
-use crew_io::input::Input;
 use crew_io::page::Page;
 use crew_io::{failure, input, page};
 use format_layout::FEW_CARDS;
-use tie_check::Ties;
 use tie_check::entries::ENTRY;
 
 // The longest header that the program takes, and one card more to notice a longer one.
@@ -24,20 +22,7 @@ const PAGE: usize = 65536;
 // Room for the line of a refusal.
 const LINE: usize = 80;
 
-const NEWLINE: u8 = 10;
-
-// How many lines have ended, with one more byte.
-fn ended(lines: usize, b: u8) -> usize {
-    if b != NEWLINE {
-        return lines;
-    }
-    if lines::MOST < lines {
-        return lines;
-    }
-    lines + 1
-}
-
-// Tells an entry where its line ends: the first line has none.
+// Tells the entry whose line has ended behind so many others: the first line has none.
 fn explain(
     out: &mut Page<'_>,
     n: usize,
@@ -45,15 +30,8 @@ fn explain(
     keys: &[u64],
     list: &[u32],
     lines: usize,
-    b: u8,
 ) -> usize {
-    if b != NEWLINE {
-        return n;
-    }
-    if lines == 0 {
-        return n;
-    }
-    if list.len() / ENTRY < lines {
+    if lines == 0 || list.len() / ENTRY < lines {
         return n;
     }
     let at = (lines - 1) * ENTRY;
@@ -72,14 +50,11 @@ fn explain(
 // Puts linecheck's text as it is, and each entry's explanation behind its line.
 fn show_lines(out: &mut Page<'_>, text: &[u8], header: &[u8], keys: &[u64], list: &[u32]) -> usize {
     let mut end = 0;
-    let mut lines = 0;
-    let mut i = 0;
-    while i < text.len() {
-        let b = text[i];
-        let put = page::push(out, end, b);
-        end = explain(out, put, header, keys, list, lines, b);
-        lines = ended(lines, b);
-        i += 1;
+    for (lines, line) in text.split_inclusive(|b| *b == b'\n').enumerate() {
+        end = page::push_all(out, end, line);
+        if line.ends_with(b"\n") {
+            end = explain(out, end, header, keys, list, lines);
+        }
     }
     end
 }
@@ -106,8 +81,8 @@ fn show(out: &mut Page<'_>, header: &[u8]) -> usize {
     let mut list = [0u32; LIST];
     let ties = crew_answer::check(header, &mut list);
     match ties {
-        Ties::Found(n) => show_broken(out, header, n, &list),
-        Ties::Refused(refusal) => show_refused(out, header, refusal),
+        Ok(n) => show_broken(out, header, n, &list),
+        Err(refusal) => show_refused(out, header, refusal),
     }
 }
 
@@ -123,9 +98,8 @@ fn reply(rt: &HostRuntime, header: &[u8]) {
 
 fn main(rt: HostRuntime) {
     let mut buf = [0u8; ROOM];
-    let input = input::read_all(&mut rt.stdin(), &mut buf);
-    match input {
-        Input::Whole(n) => reply(&rt, &buf[..n]),
-        Input::Failed(why) => failure::tell(rt.stderr(), b"lineshow: standard input", why),
+    match input::read_all(&mut rt.stdin(), &mut buf) {
+        Ok(n) => reply(&rt, &buf[..n]),
+        Err(why) => failure::tell(rt.stderr(), b"lineshow: standard input", why),
     }
 }

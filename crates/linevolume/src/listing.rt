@@ -21,17 +21,6 @@ const NUMBERS: usize = 28;
 // Where the trailer's numbers begin.
 const TRAILER: usize = 6;
 
-// The columns of a card.
-fn columns(card: &[u8], from: usize, to: usize) -> &[u8] {
-    if card.len() < to {
-        return &card[..0];
-    }
-    if to < from {
-        return &card[..0];
-    }
-    &card[from..to]
-}
-
 // What stands behind blanks.
 fn unpadded(s: &[u8]) -> &[u8] {
     &s[digits::padding(s)..]
@@ -40,8 +29,7 @@ fn unpadded(s: &[u8]) -> &[u8] {
 // Puts a number that stands behind blanks, and a blank behind it.
 fn push_first(out: &mut Page<'_>, n: usize, s: &[u8]) -> usize {
     let read = digits::read_run(unpadded(s), 0);
-    let number = read.number;
-    let end = page::push_number(out, n, number);
+    let end = page::push_number(out, n, read.number);
     page::push(out, end, b' ')
 }
 
@@ -49,14 +37,13 @@ fn push_first(out: &mut Page<'_>, n: usize, s: &[u8]) -> usize {
 fn behind_first(s: &[u8]) -> &[u8] {
     let rest = unpadded(s);
     let read = digits::read_run(rest, 0);
-    let count = read.count;
-    &rest[count..]
+    &rest[read.count..]
 }
 
 // Puts a text without its blanks, or a dash where there is none.
 fn push_text(out: &mut Page<'_>, n: usize, s: &[u8]) -> usize {
     let text = unpadded(text::stretch(s));
-    if text.len() == 0 {
+    if text.is_empty() {
         return page::push(out, n, b'-');
     }
     page::push_all(out, n, text)
@@ -64,7 +51,7 @@ fn push_text(out: &mut Page<'_>, n: usize, s: &[u8]) -> usize {
 
 // Puts a line's place, its first card and its number of cards.
 fn push_numbers(out: &mut Page<'_>, n: usize, card: &[u8], place: usize) -> usize {
-    let numbers = columns(card, NUMBERS, CARD);
+    let numbers = card.get(NUMBERS..CARD).unwrap_or(&[]);
     let placed = page::push_form(out, n, b"# ", place as u64, 0, 0);
     let first = push_first(out, placed, numbers);
     push_first(out, first, behind_first(numbers))
@@ -72,9 +59,9 @@ fn push_numbers(out: &mut Page<'_>, n: usize, card: &[u8], place: usize) -> usiz
 
 // Puts a line's sequence number and its name.
 fn push_named(out: &mut Page<'_>, n: usize, card: &[u8]) -> usize {
-    let sequence = push_text(out, n, columns(card, SEQUENCE, SEQUENCE_END));
+    let sequence = push_text(out, n, card.get(SEQUENCE..SEQUENCE_END).unwrap_or(&[]));
     let blank = page::push(out, sequence, b' ');
-    let name = push_text(out, blank, columns(card, NAME, NAME_END));
+    let name = push_text(out, blank, card.get(NAME..NAME_END).unwrap_or(&[]));
     page::push(out, name, b'\n')
 }
 
@@ -87,9 +74,8 @@ fn push_line(out: &mut Page<'_>, n: usize, card: &[u8], place: usize) -> usize {
 // The first directory card, by the trailer of a volume of so many cards.
 fn first_entry(volume: &[u8], cards: usize) -> usize {
     let trailer = page::card_in(volume, cards);
-    let read = digits::read_run(unpadded(columns(trailer, TRAILER, CARD)), 0);
-    let number = read.number;
-    number as usize
+    let columns = trailer.get(TRAILER..CARD).unwrap_or(&[]);
+    digits::read_run(unpadded(columns), 0).number as usize
 }
 
 // Writes the lines of a volume of so many cards, which is accepted.
@@ -98,10 +84,8 @@ pub fn write_lines(rt: &HostRuntime, volume: &[u8], cards: usize) {
     let mut out = page::on(rt.stdout(), &mut bytes);
     let first = first_entry(volume, cards);
     let mut end = 0;
-    let mut i = first;
-    while i < cards {
+    for i in first..cards {
         end = push_line(&mut out, end, page::card_in(volume, i), i - first + 1);
-        i += 1;
     }
     if let Err(why) = page::finish(&out, end) {
         failure::tell(rt.stderr(), b"linevolume: standard output", why);

@@ -9,11 +9,9 @@ ghost use Rattle.std.specs.Prelude.{◌≡◌, length};
 use crate::words::Whose;
 use base_digits::digits;
 use base_refusal::Refusal;
-use crew_io::input::Input;
 use crew_io::{argument, failure, input};
 use format_layout::CARD;
-use volume_check::{Counted, Found};
-use volume_edit::{Volume, compact, convert};
+use volume_edit::{compact, convert};
 
 // What can be asked for.
 #[derive(Drop)]
@@ -26,13 +24,6 @@ enum Wanted {
     Narrow,
     Compact,
     Other,
-}
-
-// The volume that was read: so many cards, or none that is told of here.
-#[derive(Drop)]
-enum Taken {
-    Cards(usize),
-    Nothing,
 }
 
 // The longest volume, and one card more to notice a longer one.
@@ -50,28 +41,16 @@ fn volume_room() -> [u8; VOLUME]
 
 // What an argument asks for.
 fn wanted_by(word: &[u8]) -> Wanted {
-    if base_lists::same(word, b"new") {
-        return Wanted::New;
+    match word {
+        b"new" => Wanted::New,
+        b"list" => Wanted::List,
+        b"get" => Wanted::Get,
+        b"append" => Wanted::Append,
+        b"widen" => Wanted::Widen,
+        b"narrow" => Wanted::Narrow,
+        b"compact" => Wanted::Compact,
+        _ => Wanted::Other,
     }
-    if base_lists::same(word, b"list") {
-        return Wanted::List;
-    }
-    if base_lists::same(word, b"get") {
-        return Wanted::Get;
-    }
-    if base_lists::same(word, b"append") {
-        return Wanted::Append;
-    }
-    if base_lists::same(word, b"widen") {
-        return Wanted::Widen;
-    }
-    if base_lists::same(word, b"narrow") {
-        return Wanted::Narrow;
-    }
-    if base_lists::same(word, b"compact") {
-        return Wanted::Compact;
-    }
-    Wanted::Other
 }
 
 // Writes cards.
@@ -83,37 +62,30 @@ fn write(rt: &HostRuntime, cards: &[u8]) {
 
 // The first bytes of what was read.
 fn first(s: &[u8], n: usize) -> &[u8] {
-    if s.len() < n {
-        return s;
-    }
-    &s[..n]
+    &s[..n.min(s.len())]
 }
 
 // The first cards of a volume.
 fn front(volume: &[u8], cards: usize) -> &[u8] {
-    if volume.len() / CARD < cards {
-        return &volume[..0];
-    }
-    &volume[..cards * CARD]
+    volume.get(..cards.saturating_mul(CARD)).unwrap_or(&[])
 }
 
-// The volume of so many bytes.
-fn counted(rt: &HostRuntime, size: usize) -> Taken {
+// How many cards a volume of so many bytes has; where that is no whole number it is told.
+fn counted(rt: &HostRuntime, size: usize) -> Option<usize> {
     if size % CARD != 0 {
         words::tell_odd(rt.stderr());
-        return Taken::Nothing;
+        return None;
     }
-    Taken::Cards(size / CARD)
+    Some(size / CARD)
 }
 
-// Reads a volume to the end of the input.
-fn take(rt: &HostRuntime, volume: &mut [u8]) -> Taken {
-    let input = input::read_all(&mut rt.stdin(), volume);
-    match input {
-        Input::Whole(n) => counted(rt, n),
-        Input::Failed(why) => {
+// Reads a volume to the end of the input, and answers how many cards it has; where none is read it is told.
+fn take(rt: &HostRuntime, volume: &mut [u8]) -> Option<usize> {
+    match input::read_all(&mut rt.stdin(), volume) {
+        Ok(n) => counted(rt, n),
+        Err(why) => {
             failure::tell(rt.stderr(), b"linevolume: standard input", why);
-            Taken::Nothing
+            None
         }
     }
 }
@@ -123,8 +95,8 @@ fn make_new(rt: &HostRuntime) {
     let mut volume = [0u8; CARD];
     let laid = volume_edit::lay_empty(&mut volume);
     match laid {
-        Volume::Cards(n) => write(rt, front(&volume, n)),
-        Volume::Refused(r) => words::tell(rt.stderr(), r, Whose::Volume),
+        Ok(n) => write(rt, front(&volume, n)),
+        Err(r) => words::tell(rt.stderr(), r, Whose::Volume),
     }
 }
 
@@ -132,8 +104,8 @@ fn make_new(rt: &HostRuntime) {
 fn list_lines(rt: &HostRuntime, volume: &[u8], cards: usize) {
     let lines = volume_check::lines(volume, cards);
     match lines {
-        Counted::Lines(_) => listing::write_lines(rt, volume, cards),
-        Counted::Refused(r) => words::tell(rt.stderr(), r, Whose::Volume),
+        Ok(_) => listing::write_lines(rt, volume, cards),
+        Err(r) => words::tell(rt.stderr(), r, Whose::Volume),
     }
 }
 
@@ -141,8 +113,8 @@ fn list_lines(rt: &HostRuntime, volume: &[u8], cards: usize) {
 fn get_line(rt: &HostRuntime, volume: &[u8], cards: usize, place: usize) {
     let found = volume_check::find_line(volume, cards, place);
     match found {
-        Found::Line(_, _, _) => write(rt, volume_check::line(volume, cards, place)),
-        Found::Refused(r) => words::tell(rt.stderr(), r, Whose::Volume),
+        Ok(_) => write(rt, volume_check::line(volume, cards, place)),
+        Err(r) => words::tell(rt.stderr(), r, Whose::Volume),
     }
 }
 
@@ -150,8 +122,8 @@ fn get_line(rt: &HostRuntime, volume: &[u8], cards: usize, place: usize) {
 fn tell_append(rt: &HostRuntime, volume: &[u8], cards: usize, r: Refusal) {
     let lines = volume_check::lines(volume, cards);
     match lines {
-        Counted::Lines(_) => words::tell(rt.stderr(), r, Whose::Header),
-        Counted::Refused(_) => words::tell(rt.stderr(), r, Whose::Volume),
+        Ok(_) => words::tell(rt.stderr(), r, Whose::Header),
+        Err(_) => words::tell(rt.stderr(), r, Whose::Volume),
     }
 }
 
@@ -159,26 +131,24 @@ fn tell_append(rt: &HostRuntime, volume: &[u8], cards: usize, r: Refusal) {
 fn append_line(rt: &HostRuntime, volume: &mut [u8], cards: usize, header: &[u8]) {
     let appended = volume_edit::append(volume, cards, header);
     match appended {
-        Volume::Cards(n) => write(rt, front(volume, n)),
-        Volume::Refused(r) => tell_append(rt, volume, cards, r),
+        Ok(n) => write(rt, front(volume, n)),
+        Err(r) => tell_append(rt, volume, cards, r),
     }
 }
 
 // Reads the volume behind the header.
 fn append_to(rt: &HostRuntime, header: &[u8]) {
     let mut volume = volume_room();
-    let taken = take(rt, &mut volume);
-    if let Taken::Cards(n) = taken {
+    if let Some(n) = take(rt, &mut volume) {
         append_line(rt, &mut volume, n, header);
     }
 }
 
 // Reads the header, which fills what is lent for it.
 fn append_from(rt: &HostRuntime, header: &mut [u8]) {
-    let input = input::read_all(&mut rt.stdin(), header);
-    match input {
-        Input::Whole(n) => append_to(rt, first(header, n)),
-        Input::Failed(why) => failure::tell(rt.stderr(), b"linevolume: standard input", why),
+    match input::read_all(&mut rt.stdin(), header) {
+        Ok(n) => append_to(rt, first(header, n)),
+        Err(why) => failure::tell(rt.stderr(), b"linevolume: standard input", why),
     }
 }
 
@@ -193,7 +163,7 @@ fn append(rt: &HostRuntime, size: usize) {
 }
 
 // Brings a volume into another form, or drops superseded lines.
-fn changed_by(wanted: Wanted, volume: &mut [u8], cards: usize) -> Volume {
+fn changed_by(wanted: Wanted, volume: &mut [u8], cards: usize) -> Result<usize, Refusal> {
     match wanted {
         Wanted::Widen => convert::widen(volume, cards),
         Wanted::Narrow => convert::narrow(volume, cards),
@@ -205,8 +175,8 @@ fn changed_by(wanted: Wanted, volume: &mut [u8], cards: usize) -> Volume {
 fn change(rt: &HostRuntime, wanted: Wanted, volume: &mut [u8], cards: usize) {
     let changed = changed_by(wanted, volume, cards);
     match changed {
-        Volume::Cards(n) => write(rt, front(volume, n)),
-        Volume::Refused(r) => words::tell(rt.stderr(), r, Whose::Volume),
+        Ok(n) => write(rt, front(volume, n)),
+        Err(r) => words::tell(rt.stderr(), r, Whose::Volume),
     }
 }
 
@@ -222,8 +192,7 @@ fn answer(rt: &HostRuntime, wanted: Wanted, volume: &mut [u8], cards: usize, pla
 // Reads the volume, and does what is asked for.
 fn read_and_answer(rt: &HostRuntime, wanted: Wanted, place: usize) {
     let mut volume = volume_room();
-    let taken = take(rt, &mut volume);
-    if let Taken::Cards(n) = taken {
+    if let Some(n) = take(rt, &mut volume) {
         answer(rt, wanted, &mut volume, n, place);
     }
 }
@@ -246,7 +215,6 @@ fn main(rt: HostRuntime) {
     let size = argument::word(&rt, 1, &mut word);
     let mut digit = [0u8; WORD];
     let count = argument::word(&rt, 2, &mut digit);
-    let read = digits::read_run(&digit[..count], 0);
-    let number = read.number;
-    run(&rt, wanted_by(&word[..size]), number as usize);
+    let number = digits::read_run(&digit[..count], 0).number as usize;
+    run(&rt, wanted_by(&word[..size]), number);
 }

@@ -1,6 +1,6 @@
 // What linevolume says on standard error when it does nothing else.
 use base_refusal::{NO_CARDS_LEFT, NO_DIRECTORY, NO_SUCH, NO_TRAILER, NOT_OLD, Refusal, TOO_MANY};
-use std::io::Stderr;
+use std::io::{Stderr, Write};
 
 // Whose refusal it is where it is a header's own.
 #[derive(Drop)]
@@ -12,11 +12,6 @@ pub enum Whose {
 // Says words on standard error; where that fails too there is nobody to tell.
 pub fn say(to: Stderr, words: &[u8]) {
     let _ = to.write_all(words);
-}
-
-// Says a number.
-fn say_number(to: Stderr, n: usize) {
-    let _ = to.print(n);
 }
 
 // Says that the header to be appended is refused.
@@ -61,17 +56,13 @@ fn say_why(to: Stderr, number: usize, whose: Whose) {
 }
 
 // Says why nothing is done.
-pub fn tell(to: Stderr, r: Refusal, whose: Whose) {
-    let number = r.number;
-    let card = r.card;
-    let column = r.column;
-    say(to, b"linevolume: refused ");
-    say_number(to, number);
-    say(to, b" ");
-    say_number(to, card);
-    say(to, b" ");
-    say_number(to, column);
-    say(to, b": ");
+pub fn tell(mut to: Stderr, r: Refusal, whose: Whose) {
+    let Refusal {
+        number,
+        card,
+        column,
+    } = r;
+    let _ = write!(to, "linevolume: refused {number} {card} {column}: ");
     say_why(to, number, whose);
 }
 

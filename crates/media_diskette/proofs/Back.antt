@@ -10,12 +10,12 @@ use lib.Seq.{take-nil, take_all, take_at, take-append-le, drop_at, get_or-drop, 
 use Rattle.value_text.specs.text.Texts.{text_end, text_of}
 use Rattle.value_text.proofs.text.Agreed.{end_le, blank_behind}
 use Rattle.value_text.proofs.text.Back.{end_blanks}
-use Rattle.media_diskette.specs.declared.Converted.TheVariants.{Length}
 use Rattle.media_diskette.specs.Lines.{line_of, lines_of, disk_of, lines_in, padded, cards_from, trimmed, Cards, NoBlankEnds}
 use Rattle.media_diskette.specs.Answers.{refused_by, sized, cards_judged, file_judged, to_answer, from_answer}
 use Rattle.media_diskette.proofs.Judging.{line-size, cards-few, file_some, sized-few, room_for, in_room_lem, cards_fine, FileFine, file_fine}
 use Rattle.media_diskette.proofs.Filing.{Filed, nothing, line, filed, filed_lines, filed_fine, padded-size, plain_size, cards-size}
 use Rattle.media_diskette.proofs.Printed.{Good, good_take, good_drop, plain_good, filed_good, none-bad}
+use Rattle.std.specs.Prelude.{Ok}
 
 -- TO DISKETTE
 
@@ -83,11 +83,11 @@ module _ (h : List ℕ) (x : Cards h) where
   size : length h ≡ length h / 80 * 80
   size = omega (arith, div-add-mod' (length h) 80, x.whole)
 
-  cards_judged_lem : cards_judged h ≡ Length (length (disk_of h))
+  cards_judged_lem : cards_judged h ≡ Ok (length (disk_of h))
   unfolding disk_of
   cards_judged_lem =
       cards-few h (λ z. omega (arith, z, x.some)) x.whole (omega (arith, size, x.few))
-      ∙ ap (λ o. refused_by o (Length (length (lines_of (length h / 80) h)))) (none-bad 0 (length h / 80) h (omega (arith, size)) x.printed)
+      ∙ ap (λ o. refused_by o (Ok (length (lines_of (length h / 80) h)))) (none-bad 0 (length h / 80) h (omega (arith, size)) x.printed)
 
   disk_filed : Filed (disk_of h) (texts_of (length h / 80) h)
   unfolding disk_of
@@ -108,16 +108,16 @@ module _ (h : List ℕ) (x : Cards h) where
       go [] q e = omega (arith, e, size, x.some)
       go (b ∷ f) q e = omega arith
 
-  disk_judged : file_judged (disk_of h) ≡ Length (length h)
+  disk_judged : file_judged (disk_of h) ≡ Ok (length h)
   disk_judged =
       file_some (disk_of h) disk_some
       ∙ ap₂ (λ o n. refused_by o (sized n)) (filed_fine 0 disk_filed) disk_lines
       ∙ sized-few (length h / 80) (omega (arith, size, x.few))
-      ∙ ap Length (sym size)
+      ∙ ap Ok (sym size)
 
   -- a header goes to diskette, and comes back byte for byte
   pub to-and_back : (room back : ℕ) → 82 * (length h / 80) ≤ room → length h ≤ back
-      → (to_answer h room ≡ Length (length (disk_of h))) × (from_answer (disk_of h) back ≡ Length (length h)) × (cards_from (disk_of h) ≡ h)
+      → (to_answer h room ≡ Ok (length (disk_of h))) × (from_answer (disk_of h) back ≡ Ok (length h)) × (cards_from (disk_of h) ≡ h)
   unfolding to_answer from_answer
   to-and_back room back r b = (
     rw cards_judged_lem (room_for room (length (disk_of h)) (omega (arith, disk_bound h))),
@@ -194,13 +194,13 @@ module _ (f : List ℕ) (n : ℕ) (x : FileFine f n) where
       }
 
 -- what a file is accepted for
-pub accepted : (f : List ℕ) (room n : ℕ) → from_answer f room ≡ Length n → FileFine f n
+pub accepted : (f : List ℕ) (room n : ℕ) → from_answer f room ≡ Ok n → FileFine f n
 unfolding from_answer
 accepted f room n e = file_fine f n (in_room_lem room n (file_judged f) e).0
 
 -- a file becomes cards, and the cards become the file without the blanks at the ends of its lines
-pub from-and_back : (f : List ℕ) (room n back : ℕ) → from_answer f room ≡ Length n → length f ≤ back
-    → (to_answer (cards_from f) back ≡ Length (length (trimmed f))) × (disk_of (cards_from f) ≡ trimmed f)
+pub from-and_back : (f : List ℕ) (room n back : ℕ) → from_answer f room ≡ Ok n → length f ≤ back
+    → (to_answer (cards_from f) back ≡ Ok (length (trimmed f))) × (disk_of (cards_from f) ≡ trimmed f)
 unfolding to_answer
 from-and_back f room n back e b =
     let x = accepted f room n e in
@@ -210,24 +210,24 @@ from-and_back f room n back e b =
     )
 
 -- the length told is that of the cards, at most 64,000
-pub cards-told : (f : List ℕ) (room n : ℕ) → from_answer f room ≡ Length n → (length (cards_from f) ≡ n) × (n ≤ 64000)
+pub cards-told : (f : List ℕ) (room n : ℕ) → from_answer f room ≡ Ok n → (length (cards_from f) ≡ n) × (n ≤ 64000)
 cards-told f room n e =
     let x = accepted f room n e in
     (long f n x ∙ x.size, omega (arith, x.few, x.size))
 
 -- and that of the file, at most 82 bytes a card
-pub disk_told : (h : List ℕ) (room n : ℕ) → to_answer h room ≡ Length n → (length (disk_of h) ≡ n) × (n ≤ 82 * (length h / 80))
+pub disk_told : (h : List ℕ) (room n : ℕ) → to_answer h room ≡ Ok n → (length (disk_of h) ≡ n) × (n ≤ 82 * (length h / 80))
 unfolding to_answer
 disk_told h room n e =
     let x = cards_fine h n (in_room_lem room n (cards_judged h) e).0 in
     (x.size, omega (arith, x.size, disk_bound h))
 
 -- neither is above the room
-pub to-fits : (h : List ℕ) (room n : ℕ) → to_answer h room ≡ Length n → n ≤ room
+pub to-fits : (h : List ℕ) (room n : ℕ) → to_answer h room ≡ Ok n → n ≤ room
 unfolding to_answer
 to-fits h room n e = (in_room_lem room n (cards_judged h) e).1
 
-pub from-fits : (f : List ℕ) (room n : ℕ) → from_answer f room ≡ Length n → n ≤ room
+pub from-fits : (f : List ℕ) (room n : ℕ) → from_answer f room ≡ Ok n → n ≤ room
 unfolding from_answer
 from-fits f room n e = (in_room_lem room n (file_judged f) e).1
 
@@ -277,6 +277,6 @@ filed_kept (line t r ls p x) h =
     ∙ append_assoc t (13 ∷ 10 ∷ []) r
 
 -- such a file that is accepted comes back byte for byte
-pub kept : (f : List ℕ) (room n : ℕ) → from_answer f room ≡ Length n → NoBlankEnds f → trimmed f ≡ f
+pub kept : (f : List ℕ) (room n : ℕ) → from_answer f room ≡ Ok n → NoBlankEnds f → trimmed f ≡ f
 unfolding trimmed
 kept f room n e h = filed_kept (filed f (accepted f room n e).good) h

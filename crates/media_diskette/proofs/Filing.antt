@@ -3,7 +3,6 @@ use Prim.Native.Nat.{ℕ, zero, suc, ◌+◌, ◌*◌, ◌-◌, ◌≤◌, ◌<�
 use native.Mathlib.Omega.{arith}
 use mathlib.Core.Path.{◌≡◌, refl, sym, ap, ap₂, subst, ◌∙◌}
 use mathlib.Core.List.{List, [], ◌∷◌, ◌++◌, flat_map}
-use mathlib.Core.Option.{Option, none, some}
 use mathlib.Core.Bool.{Bool, true, false, cond, ◌&&◌}
 use lib.ListN.{length, get_or, take, drop, length-append, length-drop, length-replicate, drop_of_length-le}
 use lib.Seq.{take_at, take_all, length-take-le, drop-drop, drop-append-add, get_or-append_seam}
@@ -18,6 +17,7 @@ use Rattle.media_diskette.specs.Lines.{lines_in, line_length, padded, cards_from
 use Rattle.media_diskette.specs.Answers.{offence_of, told, offence}
 use Rattle.media_diskette.proofs.Judging.{plain_byte, lines-plain, offence_on}
 use Rattle.media_diskette.proofs.Laying.{laid_at, put_front, laid-behind, laid-length, laid_none}
+use Rattle.std.specs.Prelude.{Option, None, Some}
 
 -- bytes without an offence, behind k others of their line
 abbrev pub Plain : ℕ → List ℕ → Type 0
@@ -34,14 +34,14 @@ pub data Rest (k : ℕ) (s : List ℕ) : Type 0 where
   done : k ≡ 0 → s ≡ [] → Rest k s
   more : (t r : List ℕ) (ls : List (List ℕ)) → s ≡ t ++ (13 ∷ 10 ∷ r) → Plain k t → Filed r ls → Rest k s
 
-some-none : (r : Refusal) → some r ≡ none → ⊥
+some-none : (r : Refusal) → Some r ≡ None → ⊥
 some-none r e = let z : ◌≡◌ {A = ℕ} 0 1 = cc in omega arith
 
-told_none : (number lines k : ℕ) (behind : Option Refusal) → told number lines k behind ≡ none → (number ≡ 0) × (behind ≡ none)
+told_none : (number lines k : ℕ) (behind : Option Refusal) → told number lines k behind ≡ None → (number ≡ 0) × (behind ≡ None)
 told_none number lines k behind e = go (eqb number 0) refl e
   where
-    go : (t : Bool) → eqb number 0 ≡ t → cond t behind (some (refusal number (lines + 1) (k + 1))) ≡ none
-        → (number ≡ 0) × (behind ≡ none)
+    go : (t : Bool) → eqb number 0 ≡ t → cond t behind (Some (refusal number (lines + 1) (k + 1))) ≡ None
+        → (number ≡ 0) × (behind ≡ None)
     go true q z = (eqb-true number 0 q, z)
     go false q z = absurd (some-none (refusal number (lines + 1) (k + 1)) z)
 
@@ -57,11 +57,11 @@ end_before b x k s e q (done z w) =
 end_before b x k s e q (more t r ls w p f) =
     more [] (t ++ (13 ∷ 10 ∷ r)) (t ∷ ls) (ap₂ (λ y (l : List ℕ). y ∷ l) e (ap₂ (λ y (l : List ℕ). y ∷ l) q w)) tt (line t r ls p f)
 
-pub rest_filed : (lines k : ℕ) (s : List ℕ) → offence lines k s ≡ none → Rest k s
+pub rest_filed : (lines k : ℕ) (s : List ℕ) → offence lines k s ≡ None → Rest k s
 unfolding offence
 rest_filed lines k [] e = go (eqb k 0) refl e
   where
-    go : (t : Bool) → eqb k 0 ≡ t → told (cond t 0 16) lines k none ≡ none → Rest k []
+    go : (t : Bool) → eqb k 0 ≡ t → told (cond t 0 16) lines k None ≡ None → Rest k []
     go true q z = done (eqb-true k 0 q) refl
     go false q z = absurd (some-none (refusal 16 (lines + 1) (k + 1)) z)
 rest_filed lines k (b ∷ []) e =
@@ -70,8 +70,8 @@ rest_filed lines k (b ∷ []) e =
 rest_filed lines k (b ∷ x ∷ s) e = go (eqb b 13 && eqb x 10) refl e (rest_filed (lines + 1) 0 s) (rest_filed lines (k + 1) (x ∷ s))
   where
     go : (t : Bool) → (eqb b 13 && eqb x 10) ≡ t
-        → cond t (offence (lines + 1) 0 s) (told (offence_of b k) lines k (offence lines (k + 1) (x ∷ s))) ≡ none
-        → (offence (lines + 1) 0 s ≡ none → Rest 0 s) → (offence lines (k + 1) (x ∷ s) ≡ none → Rest (k + 1) (x ∷ s))
+        → cond t (offence (lines + 1) 0 s) (told (offence_of b k) lines k (offence lines (k + 1) (x ∷ s))) ≡ None
+        → (offence (lines + 1) 0 s ≡ None → Rest 0 s) → (offence lines (k + 1) (x ∷ s) ≡ None → Rest (k + 1) (x ∷ s))
         → Rest k (b ∷ x ∷ s)
     go true q z ended on =
         end_before b x k s (eqb-true b 13 (and_left (eqb b 13) (eqb x 10) q)) (eqb-true x 10 (and_right (eqb b 13) (eqb x 10) q)) (ended z)
@@ -97,13 +97,13 @@ unfolding offence
 no_offence lines k [] r p = refl
 no_offence lines k (b ∷ t) r p = offence_on lines k b (t ++ (13 ∷ 10 ∷ r)) p.0 ∙ no_offence lines (k + 1) t r p.1
 
-pub filed_fine : (lines : ℕ) {f : List ℕ} {ls : List (List ℕ)} → Filed f ls → offence lines 0 f ≡ none
+pub filed_fine : (lines : ℕ) {f : List ℕ} {ls : List (List ℕ)} → Filed f ls → offence lines 0 f ≡ None
 unfolding offence
 filed_fine lines nothing = refl
 filed_fine lines (line t r ls p f) = no_offence lines 0 t r p ∙ filed_fine (lines + 1) f
 
 -- a file without an offence, with its lines
-pub filed : (f : List ℕ) → offence 0 0 f ≡ none → Filed f (lines_in f)
+pub filed : (f : List ℕ) → offence 0 0 f ≡ None → Filed f (lines_in f)
 filed f e = go (rest_filed 0 0 f e)
   where
     with_lines : (ls : List (List ℕ)) → Filed f ls → Filed f (lines_in f)
@@ -163,7 +163,7 @@ filed_size nothing = refl
 filed_size (line t r ls p x) =
     rw (length-append, padded-size t (omega (arith, plain_size 0 t (omega arith) p)), filed_size x) (omega arith)
 
-pub cards-size : (f : List ℕ) → offence 0 0 f ≡ none → length (cards_from f) ≡ length (lines_in f) * 80
+pub cards-size : (f : List ℕ) → offence 0 0 f ≡ None → length (cards_from f) ≡ length (lines_in f) * 80
 unfolding cards_from
 cards-size f e = filed_size (filed f e)
 
@@ -185,7 +185,7 @@ rest_is f i = take_all (length f - i) (drop i f) (rw length-drop (omega arith))
 pub part_wide : (d : List ℕ) (at : ℕ) → at + 80 ≤ length d → 80 ≤ length (take (length d - at) (drop at d))
 part_wide d at h = rw (rest_is d at, length-drop) (omega arith)
 
-pub laid_file : (f d : List ℕ) → offence 0 0 f ≡ none → laid_at d 0 (cards_from (drop 0 f)) ≡ cards_from f ++ drop (length (lines_in f) * 80) d
+pub laid_file : (f d : List ℕ) → offence 0 0 f ≡ None → laid_at d 0 (cards_from (drop 0 f)) ≡ cards_from f ++ drop (length (lines_in f) * 80) d
 unfolding laid_at
 laid_file f d e =
     let z : 0 + length (cards_from f) ≡ length (lines_in f) * 80 = omega (arith, cards-size f e) in

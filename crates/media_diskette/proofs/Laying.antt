@@ -1,6 +1,6 @@
 -- Texts laid into the output one behind the other.
-use Prim.Native.Nat.{ℕ, suc, ◌+◌, ◌*◌, ◌-◌, ◌/◌, ◌≤◌, ◌<◌}
-use native.Mathlib.Nat.{add-zero, sub-zero}
+use Prim.Native.Nat.{ℕ, suc, ◌+◌, ◌-◌, ◌≤◌}
+use native.Mathlib.Nat.{add-zero}
 use native.Mathlib.Omega.{arith}
 use mathlib.Core.Path.{◌≡◌, refl, sym, ap, ap₂, ◌∙◌}
 use mathlib.Core.List.{List, [], ◌∷◌, ◌++◌, append_assoc}
@@ -9,8 +9,7 @@ use lib.Seq.{drop-cons, set-append_seam, set_at, take_all, take_at, drop-append-
 use borrow.Rule.Slice.PartMut.{put_mid, Post-is}
 use Rattle.base_digits.proofs.digits.Parts.{put_rest}
 use Rattle.value_text.specs.text.Texts.{text_of}
-use Rattle.media_diskette.specs.Lines.{line_of, lines_of, disk_of, padded}
-use Rattle.media_diskette.proofs.Judging.{card_is, behind}
+use Rattle.media_diskette.specs.Lines.{line_of, padded}
 
 -- s with t laid at a place
 unfoldable pub laid_at : List ℕ → ℕ → List ℕ → List ℕ
@@ -107,63 +106,27 @@ blanked t d l u n q h w e f =
     ∙ ap (λ (x : List ℕ). t ++ (x ++ drop 80 d)) (f ∙ ap (λ m. replicate {A = ℕ} m 32) wide)
     ∙ sym (append_assoc t (replicate (80 - length t) 32) (drop 80 d))
 
--- the lines that are left when one is laid
-pub lines_more : (h : List ℕ) (n c : ℕ) → c < n
-    → lines_of (n - c) (drop (c * 80) h) ≡ line_of (take 80 (drop (c * 80) h)) ++ lines_of (n - (c + 1)) (drop ((c + 1) * 80) h)
-unfolding lines_of
-lines_more h n c l =
-    let e : n - c ≡ suc (n - (c + 1)) = omega arith in
-    rw e (ap (λ (r : List ℕ). line_of (take 80 (drop (c * 80) h)) ++ lines_of (n - (c + 1)) r) (behind h c))
+-- a text laid to the front
+pub laid_first : (s t : List ℕ) → laid_at s 0 t ≡ t ++ drop (length t) s
+unfolding laid_at
+laid_first s t = let z : 0 + length t ≡ length t = omega arith in ap (λ n. t ++ drop n s) z
 
-pub lines-over : (h : List ℕ) (n c : ℕ) → n ≤ c → lines_of (n - c) (drop (c * 80) h) ≡ []
-unfolding lines_of
-lines-over h n c l = let e : n - c ≡ 0 = omega arith in rw e
+-- the part of the output from a place on has room for a line
+pub part_room : (d line : List ℕ) (at : ℕ) → at + length line ≤ length d → length line ≤ length (take (length d - at) (drop at d))
+part_room d line at h = rw (take_all (length d - at) (drop at d) (rw length-drop (omega arith)), length-drop) (omega arith)
 
-pub more_length : (h : List ℕ) (n c : ℕ) → c < n
-    → length (lines_of (n - c) (drop (c * 80) h))
-    ≡ length (line_of (take 80 (drop (c * 80) h))) + length (lines_of (n - (c + 1)) (drop ((c + 1) * 80) h))
-more_length h n c l = ap length (lines_more h n c l) ∙ length-append (line_of (take 80 (drop (c * 80) h))) (lines_of (n - (c + 1)) (drop ((c + 1) * 80) h))
+-- a line laid there, with others to come behind it
+module _ (d u line more : List ℕ) (at r : ℕ) (room : at + length (line ++ more) ≤ length d) (q : r ≡ length line)
+    (e : u ≡ line ++ drop (length line) (take (length d - at) (drop at d))) where
+  fits : at + length line + length more ≤ length d
+  fits = omega (arith, length-append line more)
 
--- before the first line all are left to lay
-pub laid_disk : (h d : List ℕ)
-    → (length (lines_of (length h / 80 - 0) (drop (0 * 80) h)) ≡ length (disk_of h))
-    × (laid_at d 0 (lines_of (length h / 80 - 0) (drop (0 * 80) h)) ≡ disk_of h ++ drop (length (disk_of h)) d)
-unfolding disk_of laid_at
-laid_disk h d =
-    let z : 0 + length (disk_of h) ≡ length (disk_of h) = omega arith in
-    (rw sub-zero, rw sub-zero (ap (λ n. disk_of h ++ drop n d) z))
+  one_laid : put_mid at (length d - at) d u ≡ laid_at d at line
+  one_laid = put_front at (length line) d line u refl e
 
--- the loop's part of the output has room for the line
-pub part_room : (h d : List ℕ) (c at : ℕ) → at + length (line_of (take 80 (drop (c * 80) h))) ≤ length d
-    → length (line_of (take (c * 80 + 80 - c * 80) (drop (c * 80) h))) ≤ length (take (length d - at) (drop at d))
-part_room h d c at l =
-    rw (card_is h c, take_all (length d - at) (drop at d) (rw length-drop (omega arith)), length-drop) (omega arith)
+  pub room_left : at + r + length more ≤ length (put_mid at (length d - at) d u)
+  room_left = omega (arith, fits, ap length one_laid, laid-length d at line (omega (arith, fits)))
 
--- what a turn of the loop leaves
-pub next-line : (h d u : List ℕ) (n c at r : ℕ) → c < n
-    → at + length (lines_of (n - c) (drop (c * 80) h)) ≤ length d
-    → r ≡ length (line_of (take (c * 80 + 80 - c * 80) (drop (c * 80) h)))
-    → u ≡ line_of (take (c * 80 + 80 - c * 80) (drop (c * 80) h))
-    ++ drop (length (line_of (take (c * 80 + 80 - c * 80) (drop (c * 80) h)))) (take (length d - at) (drop at d))
-    → (length (put_mid at (length d - at) d u) ≡ length d)
-    × (at + r + length (lines_of (n - (c + 1)) (drop ((c + 1) * 80) h)) ≤ length (put_mid at (length d - at) d u))
-    × (laid_at (put_mid at (length d - at) d u) (at + r) (lines_of (n - (c + 1)) (drop ((c + 1) * 80) h))
-    ≡ laid_at d at (lines_of (n - c) (drop (c * 80) h)))
-next-line h d u n c at r l room q e =
-    let card : List ℕ = take (c * 80 + 80 - c * 80) (drop (c * 80) h) in
-    let rest : List ℕ = lines_of (n - (c + 1)) (drop ((c + 1) * 80) h) in
-    let is : card ≡ take 80 (drop (c * 80) h) = card_is h c in
-    let size : length (line_of card) ≡ length (line_of (take 80 (drop (c * 80) h))) = ap (λ (x : List ℕ). length (line_of x)) is in
-    let fits : at + length (line_of card) + length rest ≤ length d = omega (arith, more_length h n c l) in
-    let laid : put_mid at (length d - at) d u ≡ laid_at d at (line_of card) = put_front at (length (line_of card)) d (line_of card) u refl e in
-    let long : length (put_mid at (length d - at) d u) ≡ length d = ap length laid ∙ laid-length d at (line_of card) (omega arith) in (
-      long,
-      omega (arith, long),
-      ap (λ m. laid_at (put_mid at (length d - at) d u) (at + m) rest) q
-          ∙ ap (λ (x : List ℕ). laid_at x (at + length (line_of card)) rest) laid
-          ∙ laid-behind d at (line_of card) rest (omega arith)
-          ∙ ap (laid_at d at) (ap (λ (x : List ℕ). line_of x ++ rest) is ∙ sym (lines_more h n c l)),
-    )
-
-pub laid-over : (h d : List ℕ) (n c at : ℕ) → n ≤ c → laid_at d at (lines_of (n - c) (drop (c * 80) h)) ≡ d
-laid-over h d n c at l = ap (laid_at d at) (lines-over h n c l) ∙ laid_none d at
+  pub next-line : laid_at (put_mid at (length d - at) d u) (at + r) more ≡ laid_at d at (line ++ more)
+  next-line =
+      ap₂ (λ (l : List ℕ) n. laid_at l (at + n) more) one_laid q ∙ laid-behind d at line more (omega (arith, fits))

@@ -4,7 +4,6 @@ use native.Mathlib.Omega.{arith}
 use native.Mathlib.Decide.{dec_lt}
 use mathlib.Core.Path.{◌≡◌, refl, ap, ◌∙◌}
 use mathlib.Core.List.{List, [], ◌∷◌, ◌++◌, flat_map}
-use mathlib.Core.Option.{none}
 use mathlib.Core.Bool.{true, false, not, ◌&&◌}
 use lib.ListN.{length, get_or, take, drop, replicate, length-append, length-take, length-drop, length-replicate, get_or-append, get_or-replicate}
 use lib.Seq.{get_or-take, get_or-drop, get_or-append-add, length-take-le}
@@ -17,6 +16,7 @@ use Rattle.media_diskette.specs.Lines.{padded}
 use Rattle.media_diskette.specs.Answers.{offence_of, bad_byte}
 use Rattle.media_diskette.proofs.Judging.{plain_byte}
 use Rattle.media_diskette.proofs.Filing.{Plain, Filed, nothing, line}
+use Rattle.std.specs.Prelude.{None}
 
 abbrev pub Good : List ℕ → Type 0
 Good s = (i : ℕ) → i < length s → bad_at s i ≡ false
@@ -84,7 +84,7 @@ first_good : (s : List ℕ) → Good s → first_bad s ≡ length s
 unfolding first_bad
 first_good s g = first-none (bad_at s) (length s) g
 
-pub none-bad : (c n : ℕ) (h : List ℕ) → n * 80 ≤ length h → Good h → bad_byte c n h ≡ none
+pub none-bad : (c n : ℕ) (h : List ℕ) → n * 80 ≤ length h → Good h → bad_byte c n h ≡ None
 unfolding bad_byte
 none-bad c zero h l g = refl
 none-bad c (suc n) h l g =

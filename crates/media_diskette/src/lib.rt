@@ -4,7 +4,6 @@
 #![tactic(auto)]
 
 ghost use Rattle.std.specs.Prelude.{◌≡◌, ◌++◌, ◌+◌, ◌*◌, ◌/◌, ◌≤◌, ◌<◌, length, take, drop};
-ghost use Rattle.std.proofs.Math.Option.{none};
 ghost use Rattle.media_diskette.specs.Lines.{line_of, lines_of, disk_of, line_length, lines_in, padded, cards_from};
 ghost use Rattle.media_diskette.specs.Answers.{bad_byte, offence_of, offence, refused_by, sized, in_room, cards_judged, file_judged, to_answer, from_answer, output_by};
 
@@ -23,63 +22,51 @@ const LF: u8 = 10;
 // The bytes that end a line.
 const LINE_END: usize = 2;
 
-// What comes of a conversion: the length written, or why nothing was.
-#[derive(Drop)]
-pub enum Converted {
-    Length(usize),
-    Refused(Refusal),
-}
-
 // An answer that is a length, if the output has room for it.
-fn in_room(answer: Converted, room: usize) -> Converted
+fn in_room(answer: Result<usize, Refusal>, room: usize) -> Result<usize, Refusal>
     ensures { result ≡ in_room room answer }
 {
     match answer {
-        Converted::Length(n) => {
+        Ok(n) => {
             if room < n {
-                return Converted::Refused(refuse(NO_OUTPUT, 0, 0));
+                return Err(refuse(NO_OUTPUT, 0, 0));
             }
-            Converted::Length(n)
+            Ok(n)
         }
-        Converted::Refused(r) => Converted::Refused(r),
+        Err(r) => Err(r),
     }
 }
 
 // The bytes of cards: the first that is not printable, or the length of their lines.
-fn measure(cards: &[u8]) -> Converted
+fn measure(cards: &[u8]) -> Result<usize, Refusal>
     requires { length cards.now / 80 ≤ 800 }
     ensures { result
         ≡ refused_by (bad_byte 0 (length cards.now / 80) cards.now)
-        (Converted.Length (length (lines_of (length cards.now / 80) cards.now))) }
+        (Ok (length (lines_of (length cards.now / 80) cards.now))) }
 {
-    let count = cards.len() / CARD;
     let mut size = 0;
-    let mut place = 0;
-    while place < count {
-        let from = place * CARD;
-        let card = &cards[from..from + CARD];
+    for (place, card) in cards.chunks_exact(CARD).enumerate() {
         let bad = printable::first_bad(card);
         if bad < CARD {
-            return Converted::Refused(refuse(UNPRINTABLE, place + 1, bad + 1));
+            return Err(refuse(UNPRINTABLE, place + 1, bad + 1));
         }
         size += text::text_end(card) + LINE_END;
-        place += 1;
     }
-    Converted::Length(size)
+    Ok(size)
 }
 
 // The length of a header's lines, or why there are none.
-fn judge_cards(cards: &[u8]) -> Converted
+fn judge_cards(cards: &[u8]) -> Result<usize, Refusal>
     ensures { result ≡ cards_judged cards.now }
 {
-    if cards.len() == 0 {
-        return Converted::Refused(refuse(EMPTY, 0, 0));
+    if cards.is_empty() {
+        return Err(refuse(EMPTY, 0, 0));
     }
     if cards.len() % CARD != 0 {
-        return Converted::Refused(refuse(ODD_LENGTH, 0, 0));
+        return Err(refuse(ODD_LENGTH, 0, 0));
     }
     if FEW_CARDS < cards.len() / CARD {
-        return Converted::Refused(refuse(TOO_MANY, 0, 0));
+        return Err(refuse(TOO_MANY, 0, 0));
     }
     measure(cards)
 }
@@ -105,29 +92,25 @@ fn lay_lines(out: &mut [u8], cards: &[u8])
     ensures { out.new
         ≡ disk_of cards.now ++ drop (length (disk_of cards.now)) out.old }
 {
-    let count = cards.len() / CARD;
     let mut at = 0;
-    let mut place = 0;
-    while place < count {
-        let from = place * CARD;
-        at += lay_line(&mut out[at..], &cards[from..from + CARD]);
-        place += 1;
+    for card in cards.chunks_exact(CARD) {
+        at += lay_line(&mut out[at..], card);
     }
 }
 
 // Converts a header to a diskette file.
-pub fn to_diskette(cards: &[u8], out: &mut [u8]) -> Converted
+pub fn to_diskette(cards: &[u8], out: &mut [u8]) -> Result<usize, Refusal>
     ensures answer { result ≡ to_answer cards.now (length out.old) }
     ensures out { out.new
         ≡ output_by (to_answer cards.now (length out.old)) (disk_of cards.now) out.old }
 {
     let answer = in_room(judge_cards(cards), out.len());
     match answer {
-        Converted::Length(n) => {
+        Ok(n) => {
             lay_lines(out, cards);
-            Converted::Length(n)
+            Ok(n)
         }
-        Converted::Refused(r) => Converted::Refused(r),
+        Err(r) => Err(r),
     }
 }
 
@@ -149,23 +132,24 @@ fn offence_of(b: u8, k: usize) -> usize
 }
 
 // The length of the cards of so many lines, if a header may have as many.
-fn size_of(lines: usize) -> Converted
+fn size_of(lines: usize) -> Result<usize, Refusal>
     ensures { result ≡ sized lines }
 {
     if FEW_CARDS < lines {
-        return Converted::Refused(refuse(TOO_MANY, 0, 0));
+        return Err(refuse(TOO_MANY, 0, 0));
     }
-    Converted::Length(lines * CARD)
+    Ok(lines * CARD)
 }
 
 // The bytes of a file: the first offence, or the length of the cards.
-fn count_lines(file: &[u8]) -> Converted
+fn count_lines(file: &[u8]) -> Result<usize, Refusal>
     ensures { result
         ≡ refused_by (offence 0 0 file.now) (sized (length (lines_in file.now))) }
 {
     let mut lines = 0;
     let mut k = 0;
     let mut i = 0;
+    // Counted by hand: the two bytes that end a line are passed at once.
     while i < file.len() {
         let b = file[i];
         let number = offence_of(b, k);
@@ -181,20 +165,20 @@ fn count_lines(file: &[u8]) -> Converted
             i += LINE_END;
             continue;
         }
-        return Converted::Refused(refuse(number, lines + 1, k + 1));
+        return Err(refuse(number, lines + 1, k + 1));
     }
     if k != 0 {
-        return Converted::Refused(refuse(NO_LINE_END, lines + 1, k + 1));
+        return Err(refuse(NO_LINE_END, lines + 1, k + 1));
     }
     size_of(lines)
 }
 
 // The length of a file's cards, or why there are none.
-fn judge_file(file: &[u8]) -> Converted
+fn judge_file(file: &[u8]) -> Result<usize, Refusal>
     ensures { result ≡ file_judged file.now }
 {
-    if file.len() == 0 {
-        return Converted::Refused(refuse(EMPTY, 0, 0));
+    if file.is_empty() {
+        return Err(refuse(EMPTY, 0, 0));
     }
     count_lines(file)
 }
@@ -203,14 +187,7 @@ fn judge_file(file: &[u8]) -> Converted
 fn line_length(file: &[u8]) -> usize
     ensures { (result ≡ line_length file.now) × (result ≤ length file.now) }
 {
-    let mut i = 0;
-    while i < file.len() {
-        if file[i] == CR {
-            return i;
-        }
-        i += 1;
-    }
-    i
+    file.iter().take_while(|b| **b != CR).count()
 }
 
 // Writes the card of a file's first line to the front of the output, and answers the line's length with its end.
@@ -228,12 +205,13 @@ fn lay_card(out: &mut [u8], file: &[u8]) -> usize
 
 // Writes the cards of all lines of an accepted file to the front of the output.
 fn lay_cards(out: &mut [u8], file: &[u8])
-    requires { (offence 0 0 file.now ≡ none) × (length (lines_in file.now) * 80 ≤ length out.old) }
+    requires { (offence 0 0 file.now ≡ None) × (length (lines_in file.now) * 80 ≤ length out.old) }
     ensures { out.new
         ≡ cards_from file.now ++ drop (length (lines_in file.now) * 80) out.old }
 {
     let mut at = 0;
     let mut i = 0;
+    // Counted by hand: both places move, one by the length of a line that is found on the way.
     while i < file.len() {
         i += lay_card(&mut out[at..], &file[i..]);
         at += CARD;
@@ -241,17 +219,17 @@ fn lay_cards(out: &mut [u8], file: &[u8])
 }
 
 // Converts a diskette file to a header.
-pub fn from_diskette(file: &[u8], out: &mut [u8]) -> Converted
+pub fn from_diskette(file: &[u8], out: &mut [u8]) -> Result<usize, Refusal>
     ensures answer { result ≡ from_answer file.now (length out.old) }
     ensures out { out.new
         ≡ output_by (from_answer file.now (length out.old)) (cards_from file.now) out.old }
 {
     let answer = in_room(judge_file(file), out.len());
     match answer {
-        Converted::Length(n) => {
+        Ok(n) => {
             lay_cards(out, file);
-            Converted::Length(n)
+            Ok(n)
         }
-        Converted::Refused(r) => Converted::Refused(r),
+        Err(r) => Err(r),
     }
 }

@@ -10,11 +10,11 @@ use lib.ListN.{length, take, drop, length-map}
 use lib.Seq.{take-append_seam, drop-append_seam, length-sets}
 use Rattle.base_lists.specs.Laid.{stored}
 use Rattle.base_lists.proofs.Laying.{stored-fits, stored_full, stored_sets}
-use Rattle.media_ebcdic.specs.declared.Translated.{Translated}
-use Rattle.media_ebcdic.specs.declared.Translated.TheVariants.{Done, Refused}
 use Rattle.media_ebcdic.specs.Tables.{ascii_of, ebcdic_of}
 use Rattle.media_ebcdic.specs.Translating.{Bytes, ascii_from, ebcdic_from, translated_for}
 use Rattle.media_ebcdic.proofs.Undone.{ascii_byte, ebcdic_byte, ascii_back, ebcdic_back}
+use Rattle.std.specs.Prelude.{Result, Ok, Err}
+use Rattle.base_refusal.specs.declared.Refusal.{Refusal}
 
 -- whatever is written from the front of a lent output
 module _ (out w : List ℕ) where
@@ -44,9 +44,9 @@ module _ (out w : List ℕ) where
 
 -- no more is written than there is room for
 
-abbrev number_in : Translated → ℕ
-number_in (Done n) = n
-number_in (Refused r) = 0
+abbrev number_in : Result ℕ Refusal → ℕ
+number_in (Ok n) = n
+number_in (Err r) = 0
 
 within : (bytes room : ℕ) → number_in (translated_for bytes room) ≤ room
 unfolding translated_for
@@ -55,7 +55,7 @@ within bytes room = elim (dec_le bytes room) [
   | no h ↦ rw (lt-ltb room bytes (omega arith)) (omega arith)
 ]
 
-pub done-fits : (bytes room n : ℕ) → translated_for bytes room ≡ Done n → n ≤ room
+pub done-fits : (bytes room n : ℕ) → translated_for bytes room ≡ Ok n → n ≤ room
 done-fits bytes room n e = subst (λ m. m ≤ room) (ap number_in e) (within bytes room)
 
 -- a table and one that undoes it

@@ -1,9 +1,8 @@
 -- Buffers translated byte by byte, and what is answered: the number of bytes written, or 17 where the output is shorter.
-use Rattle.std.specs.Prelude.{ℕ, ◌<◌, cond, List, [], ◌∷◌, map, ltb}
+use Rattle.std.specs.Prelude.{ℕ, ◌<◌, cond, List, [], ◌∷◌, map, ltb, Result, Ok, Err}
 use Rattle.base_refusal.specs.Refusals.{refusal}
-use Rattle.media_ebcdic.specs.declared.Translated.{Translated}
-use Rattle.media_ebcdic.specs.declared.Translated.TheVariants.{Done, Refused}
 use Rattle.media_ebcdic.specs.Tables.{ascii_of, ebcdic_of}
+use Rattle.base_refusal.specs.declared.Refusal.{Refusal}
 
 -- a buffer: each of its numbers is a byte
 abbrev pub Bytes : List ℕ → Type 0
@@ -19,5 +18,5 @@ unfoldable pub ebcdic_from : List ℕ → List ℕ
 ebcdic_from text = map ebcdic_of text
 
 -- what is answered for so many bytes and so much room
-unfoldable pub translated_for : ℕ → ℕ → Translated
-translated_for bytes room = cond (ltb room bytes) (Refused (refusal 17 0 0)) (Done bytes)
+unfoldable pub translated_for : ℕ → ℕ → Result ℕ Refusal
+translated_for bytes room = cond (ltb room bytes) (Err (refusal 17 0 0)) (Ok bytes)

@@ -1,4 +1,5 @@
 // Every answer as numbers, for programs in other languages: one number that says it, and three that go with it.
+ghost use Rattle.volume_check.specs.Lines.{line_place};
 ghost use Rattle.std.specs.Prelude.{◌≡◌, false};
 ghost use Rattle.p294.specs.answers.Replies.{plain, refused_reply, done_reply, mark, value_reply, field_reply, text_alone, entered_reply, opened_reply, count_reply, only_reply, ties_reply, key_reply, converted_reply, translated_reply, lines_reply, line_reply, volume_reply, routes_reply, heading_reply};
 
@@ -6,16 +7,8 @@ use base_digits::signs;
 use base_refusal::Refusal;
 use base_value::{Columns, Date, Decimal, Value};
 use card_field::FieldRead;
-use card_put::Entered;
-use card_put::opening::Opened;
-use media_diskette::Converted;
-use media_ebcdic::Translated;
-use survey_compass::Heading;
-use survey_datums::listing::Listed;
-use tie_check::Ties;
 use tie_lookup::questions::Defined;
-use volume_check::{Counted, Found};
-use volume_edit::Volume;
+use volume_check::LinePlace;
 
 // What the answer with a text says.
 const TEXT: i64 = 5;
@@ -142,12 +135,12 @@ fn of_value(v: Value, misplaced: bool) -> Reply
 }
 
 // The reading of a field.
-pub fn of_field(read: FieldRead) -> Reply
+pub fn of_field(read: Result<FieldRead, Refusal>) -> Reply
     ensures { result ≡ field_reply read }
 {
     match read {
-        FieldRead::Is(v, misplaced) => of_value(v, misplaced),
-        FieldRead::Refused(r) => refused(r),
+        Ok(field) => of_value(field.value, field.misplaced),
+        Err(r) => refused(r),
     }
 }
 
@@ -166,22 +159,22 @@ pub fn of_text(reply: Reply) -> Reply
 }
 
 // What came of an entry.
-pub fn of_entered(entered: Entered) -> Reply
+pub fn of_entered(entered: Result<(), Refusal>) -> Reply
     ensures { result ≡ entered_reply entered }
 {
     match entered {
-        Entered::Done => done(),
-        Entered::Refused(r) => refused(r),
+        Ok(()) => done(),
+        Err(r) => refused(r),
     }
 }
 
 // What came of an opening.
-pub fn of_opened(opened: Opened) -> Reply
+pub fn of_opened(opened: Result<(), Refusal>) -> Reply
     ensures { result ≡ opened_reply opened }
 {
     match opened {
-        Opened::Done => done(),
-        Opened::Refused(r) => refused(r),
+        Ok(()) => done(),
+        Err(r) => refused(r),
     }
 }
 
@@ -210,60 +203,61 @@ fn only(card: usize, column: usize) -> Reply
 }
 
 // What came of a check.
-pub fn of_ties(ties: Ties) -> Reply
+pub fn of_ties(ties: Result<usize, Refusal>) -> Reply
     ensures { result ≡ ties_reply ties }
 {
     match ties {
-        Ties::Found(n) => counted(n),
-        Ties::Refused(r) => refused(r),
+        Ok(n) => counted(n),
+        Err(r) => refused(r),
     }
 }
 
 // What a header says of a key.
-pub fn of_key(defined: Defined) -> Reply
+#[tactic(auto, unfolding(crate::specs::answers::Replies::key_reply))]
+pub fn of_key(defined: Result<Defined, Refusal>) -> Reply
     ensures { result ≡ key_reply defined }
 {
     match defined {
-        Defined::None => done(),
-        Defined::Only(card, column) => only(card, column),
-        Defined::Several(n) => counted(n),
-        Defined::Refused(r) => refused(r),
+        Ok(Defined::None) => done(),
+        Ok(Defined::Only(card, column)) => only(card, column),
+        Ok(Defined::Several(n)) => counted(n),
+        Err(r) => refused(r),
     }
 }
 
 // What came of a conversion.
-pub fn of_converted(converted: Converted) -> Reply
+pub fn of_converted(converted: Result<usize, Refusal>) -> Reply
     ensures { result ≡ converted_reply converted }
 {
     match converted {
-        Converted::Length(n) => counted(n),
-        Converted::Refused(r) => refused(r),
+        Ok(n) => counted(n),
+        Err(r) => refused(r),
     }
 }
 
 // What came of a translation.
-pub fn of_translated(translated: Translated) -> Reply
+pub fn of_translated(translated: Result<usize, Refusal>) -> Reply
     ensures { result ≡ translated_reply translated }
 {
     match translated {
-        Translated::Done(n) => counted(n),
-        Translated::Refused(r) => refused(r),
+        Ok(n) => counted(n),
+        Err(r) => refused(r),
     }
 }
 
 // How many lines a volume has.
-pub fn of_lines(lines: Counted) -> Reply
+pub fn of_lines(lines: Result<usize, Refusal>) -> Reply
     ensures { result ≡ lines_reply lines }
 {
     match lines {
-        Counted::Lines(n) => counted(n),
-        Counted::Refused(r) => refused(r),
+        Ok(n) => counted(n),
+        Err(r) => refused(r),
     }
 }
 
 // A line's cards.
 fn placed(start: usize, number: usize, entry: usize) -> Reply
-    ensures { result ≡ line_reply (Found.Line start number entry) }
+    ensures { result ≡ line_reply (Ok (line_place start number entry)) }
 {
     Reply {
         said: plain_of(number),
@@ -274,41 +268,41 @@ fn placed(start: usize, number: usize, entry: usize) -> Reply
 }
 
 // Where a line of a volume stands.
-pub fn of_line(found: Found) -> Reply
+pub fn of_line(found: Result<LinePlace, Refusal>) -> Reply
     ensures { result ≡ line_reply found }
 {
     match found {
-        Found::Line(first, number, entry) => placed(first, number, entry),
-        Found::Refused(r) => refused(r),
+        Ok(line) => placed(line.first, line.cards, line.entry),
+        Err(r) => refused(r),
     }
 }
 
 // What came of writing to a volume.
-pub fn of_volume(volume: Volume) -> Reply
+pub fn of_volume(volume: Result<usize, Refusal>) -> Reply
     ensures { result ≡ volume_reply volume }
 {
     match volume {
-        Volume::Cards(n) => counted(n),
-        Volume::Refused(r) => refused(r),
+        Ok(n) => counted(n),
+        Err(r) => refused(r),
     }
 }
 
 // What came of routes.
-pub fn of_routes(listed: Listed) -> Reply
+pub fn of_routes(listed: Result<usize, Refusal>) -> Reply
     ensures { result ≡ routes_reply listed }
 {
     match listed {
-        Listed::Routed(n) => counted(n),
-        Listed::Refused(r) => refused(r),
+        Ok(n) => counted(n),
+        Err(r) => refused(r),
     }
 }
 
 // What came of asking for a heading.
-pub fn of_heading(heading: Heading) -> Reply
+pub fn of_heading(heading: Result<Decimal, Refusal>) -> Reply
     ensures { result ≡ heading_reply heading }
 {
     match heading {
-        Heading::Is(d) => of_decimal(d, false),
-        Heading::Refused(r) => refused(r),
+        Ok(d) => of_decimal(d, false),
+        Err(r) => refused(r),
     }
 }

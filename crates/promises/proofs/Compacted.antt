@@ -9,7 +9,6 @@ use mathlib.Core.List.{List, [], ◌∷◌, ◌++◌}
 use lib.ListN.{length, take, drop, get_or, replicate, length-append, length-replicate}
 use lib.Seq.{take_at, drop_at, drop-drop}
 use Rattle.base_lists.specs.Parts.{keep}
-use Rattle.header_check.specs.declared.Checked.TheVariants as checked
 use Rattle.header_check.specs.forms.Cards.{cards_in}
 use Rattle.volume_form.specs.declared.Form.{Form}
 use Rattle.volume_form.specs.Rows.{Row, row_of}
@@ -24,11 +23,12 @@ use Rattle.volume_rules.proofs.Appending.{joined-cards}
 use Rattle.volume_rules.proofs.Exactly.{volume_long}
 use Rattle.volume_rules.proofs.Latest.{latest_twice, latest_wholes}
 use Rattle.volume_rules.proofs.Judging.{so_stated, taken_wholes, volume_accepted, volume_tells}
-use Rattle.volume_edit.specs.declared.Volume.TheVariants.{Cards}
 use Rattle.volume_edit.specs.Written.{cards_by, append_answer, append_checked, room_answer, compact_answer, compacted_by}
 use Rattle.promises.specs.Rewritten.{kept_answer, kept_left}
 use Rattle.promises.proofs.Forms.{form-told}
 use Rattle.promises.proofs.Converted.{long, whole_buffer}
+use Rattle.std.specs.Prelude.{Ok}
+use Rattle.base_refusal.specs.Refusals.{no_refusal}
 
 -- what is kept of accepted headers is accepted
 latest_accepteds : (f : Row) (hs : List (List ℕ)) → Accepteds f hs → Accepteds f (latest same_line hs)
@@ -107,7 +107,7 @@ module _ (form : Form) (n : ℕ) (buffer : List ℕ) (hs : List (List ℕ)) (is 
   tells = volume_tells f (good_row form) n buffer hs is
 
   -- the number of cards of the lines that are kept
-  pub kept-cards : kept_answer n buffer ≡ Cards m
+  pub kept-cards : kept_answer n buffer ≡ Ok m
   unfolding compact_answer
   kept-cards =
       ap (λ x. compact_answer (row_of x) n buffer) told
@@ -163,11 +163,11 @@ module _ (form : Form) (n : ℕ) (buffer : List ℕ) (hs : List (List ℕ)) (is 
       ∙ drop_at (replicate (80 * n - 80 * m) 32) (drop (80 * n) buffer) (80 * n - 80 * m) (length-replicate (80 * n - 80 * m) 32)
 
   -- nothing superseded: the very bytes
-  pub kept-all : latest same_line hs ≡ hs → (kept_answer n buffer ≡ Cards n) × (kept_left n buffer ≡ buffer)
+  pub kept-all : latest same_line hs ≡ hs → (kept_answer n buffer ≡ Ok n) × (kept_left n buffer ≡ buffer)
   kept-all e =
       let same : m ≡ n = ap total e ∙ sym is.cards in
       let none : 80 * n - 80 * m ≡ 0 = omega arith in (
-        kept-cards ∙ ap Cards same,
+        kept-cards ∙ ap Ok same,
         kept_left_lem
             ∙ ap₂ (λ gs k. volume_of f gs ++ (replicate k 32 ++ drop (80 * n) buffer)) e none
             ∙ whole_buffer f (good_row form) n buffer hs is,
@@ -184,8 +184,8 @@ module _ (form : Form) (n : ℕ) (buffer : List ℕ) (hs : List (List ℕ)) (is 
       ap length kept_left_lem ∙ omega (arith, kept_fewer, was_long, now_long)
 
   -- a header that a volume takes can be appended where the form allows so many cards and the buffer holds them
-  pub kept_append : (h : List ℕ) → header_answer f h ≡ checked.Accepted → m + cards_in h + 1 ≤ f.most → m + cards_in h + 1 ≤ cards_in buffer
-      → append_answer f m (kept_left n buffer) h ≡ Cards (m + cards_in h + 1)
+  pub kept_append : (h : List ℕ) → header_answer f h ≡ no_refusal → m + cards_in h + 1 ≤ f.most → m + cards_in h + 1 ≤ cards_in buffer
+      → append_answer f m (kept_left n buffer) h ≡ Ok (m + cards_in h + 1)
   unfolding append_answer append_checked room_answer cards_in
   kept_append h a few room =
       let s = so_stated f (m + cards_in h + 1) (cards_in (kept_left n buffer))
@@ -194,7 +194,7 @@ module _ (form : Form) (n : ℕ) (buffer : List ℕ) (hs : List (List ℕ)) (is 
 
 -- compacting again answers the same number and leaves the very bytes
 pub kept_twice : (form : Form) (n : ℕ) (buffer : List ℕ) (hs : List (List ℕ)) → Holds (row_of form) n buffer hs
-    → (kept_answer (total (latest same_line hs)) (kept_left n buffer) ≡ Cards (total (latest same_line hs)))
+    → (kept_answer (total (latest same_line hs)) (kept_left n buffer) ≡ Ok (total (latest same_line hs)))
     × (kept_left (total (latest same_line hs)) (kept_left n buffer) ≡ kept_left n buffer)
 kept_twice form n buffer hs is =
     kept-all form (total (latest same_line hs)) (kept_left n buffer) (latest same_line hs) (kept-holds form n buffer hs is) (latest_twice same_line hs)

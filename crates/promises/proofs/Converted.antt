@@ -24,11 +24,11 @@ use Rattle.volume_rules.specs.Judged.{Holds, Accepteds, form_in}
 use Rattle.volume_rules.specs.Converted.{few, holds, convert_checked}
 use Rattle.volume_rules.proofs.Exactly.{volume_long}
 use Rattle.volume_rules.proofs.Judging.{header_taken, taken_header, taken_wholes, volume_accepted, volume_tells}
-use Rattle.volume_edit.specs.declared.Volume.{Volume}
-use Rattle.volume_edit.specs.declared.Volume.TheVariants.{Cards, Refused}
 use Rattle.volume_edit.specs.Written.{convert_answer, left_by}
 use Rattle.promises.specs.Rewritten.{form_answer, form_left}
 use Rattle.promises.proofs.Forms.{form-told}
+use Rattle.std.specs.Prelude.{Result, Ok, Err}
+use Rattle.base_refusal.specs.declared.Refusal.{Refusal}
 
 -- headers that one form takes another takes if none is too large for it
 accepteds_there : (f g : Row) (hs : List (List ℕ)) → Accepteds f hs → few g.largest hs ≡ true → Accepteds g hs
@@ -61,11 +61,11 @@ module _ (f : Row) (good : Good f) (n : ℕ) (buffer : List ℕ) (hs : List (Lis
   own_held = rw (le-leb n f.most is.few) (few_own f hs is.accepted)
 
   module _ (g : Row) where
-    answer_done : holds g n hs ≡ true → convert_answer f g n buffer ≡ Cards n
+    answer_done : holds g n hs ≡ true → convert_answer f g n buffer ≡ Ok n
     unfolding convert_answer convert_checked
     answer_done e = rw (volume_accepted f good n buffer hs is, volume_tells f good n buffer hs is, e)
 
-    answer_not : holds g n hs ≡ false → convert_answer f g n buffer ≡ Refused (refusal 21 0 0)
+    answer_not : holds g n hs ≡ false → convert_answer f g n buffer ≡ Err (refusal 21 0 0)
     unfolding convert_answer convert_checked
     answer_not e = rw (volume_accepted f good n buffer hs is, volume_tells f good n buffer hs is, e)
 
@@ -87,13 +87,13 @@ module _ (from to : Form) (n : ℕ) (buffer : List ℕ) (hs : List (List ℕ)) (
   tells = volume_tells (row_of from) (good_row from) n buffer hs is
 
   -- a form that does not hold the volume refuses it
-  pub form-refused : holds (row_of to) n hs ≡ false → form_answer to n buffer ≡ Refused (refusal 21 0 0)
+  pub form-refused : holds (row_of to) n hs ≡ false → form_answer to n buffer ≡ Err (refusal 21 0 0)
   form-refused e =
       ap (λ form. convert_answer (row_of form) (row_of to) n buffer) told ∙ answer_not (row_of from) (good_row from) n buffer hs is (row_of to) e
 
   module _ (e : holds (row_of to) n hs ≡ true) where
     -- one that holds it takes it
-    pub form-done : form_answer to n buffer ≡ Cards n
+    pub form-done : form_answer to n buffer ≡ Ok n
     form-done =
         ap (λ form. convert_answer (row_of form) (row_of to) n buffer) told ∙ answer_done (row_of from) (good_row from) n buffer hs is (row_of to) e
 
@@ -114,14 +114,14 @@ module _ (from to : Form) (n : ℕ) (buffer : List ℕ) (hs : List (List ℕ)) (
 
 -- a volume that has the form keeps its bytes
 pub form-kept : (form : Form) (n : ℕ) (buffer : List ℕ) (hs : List (List ℕ)) → Holds (row_of form) n buffer hs
-    → (form_answer form n buffer ≡ Cards n) × (form_left form n buffer ≡ buffer)
+    → (form_answer form n buffer ≡ Ok n) × (form_left form n buffer ≡ buffer)
 form-kept form n buffer hs is =
     let e = own_held (row_of form) (good_row form) n buffer hs is in
     (form-done form form n buffer hs is e, form_left_lem form form n buffer hs is e ∙ whole_buffer (row_of form) (good_row form) n buffer hs is)
 
 -- and the way back gives the bytes of before
 pub form_back : (from to : Form) (n : ℕ) (buffer : List ℕ) (hs : List (List ℕ)) → Holds (row_of from) n buffer hs → holds (row_of to) n hs ≡ true
-    → (form_answer from n (form_left to n buffer) ≡ Cards n) × (form_left from n (form_left to n buffer) ≡ buffer)
+    → (form_answer from n (form_left to n buffer) ≡ Ok n) × (form_left from n (form_left to n buffer) ≡ buffer)
 form_back from to n buffer hs is e =
     let own = own_held (row_of from) (good_row from) n buffer hs is in
     let left = form-holds from to n buffer hs is e in (
@@ -153,20 +153,20 @@ over-some most (h ∷ hs) e = elim (dec_le (cards_in h) most) [
   | no l ↦ record { place = 0; there = omega arith; large = omega arith }
 ]
 
-refused-apart : (n : ℕ) → Cards n ≡ Refused (refusal 21 0 0) → ⊥
+refused-apart : (n : ℕ) → ◌≡◌ {A = Result ℕ Refusal} (Ok n) (Err (refusal 21 0 0)) → ⊥
 refused-apart n e = false≢true (sym (ap done e))
   where
-    done : Volume → Bool
-    done (Cards n) = true
-    done (Refused r) = false
+    done : Result ℕ Refusal → Bool
+    done (Ok n) = true
+    done (Err r) = false
 
 -- a wide volume is a 21 in the old form exactly if it has more than 999 cards or a header of more than 800
 module _ (n : ℕ) (buffer : List ℕ) (hs : List (List ℕ)) (is : Holds (row_of Wide) n buffer hs) where
-  pub narrow_not : (form_answer Old n buffer ≡ Refused (refusal 21 0 0)) ↔ ((999 < n) ⊎ Over 800 hs)
+  pub narrow_not : (form_answer Old n buffer ≡ Err (refusal 21 0 0)) ↔ ((999 < n) ⊎ Over 800 hs)
   unfolding holds row_of
   narrow_not = (to-over (holds (row_of Old) n hs) refl, of_over)
     where
-      to-over : (t : Bool) → holds (row_of Old) n hs ≡ t → form_answer Old n buffer ≡ Refused (refusal 21 0 0) → (999 < n) ⊎ Over 800 hs
+      to-over : (t : Bool) → holds (row_of Old) n hs ≡ t → form_answer Old n buffer ≡ Err (refusal 21 0 0) → (999 < n) ⊎ Over 800 hs
       to-over true e r = absurd (refused-apart n (sym (form-done Wide Old n buffer hs is e) ∙ r))
       to-over false e r = elim (dec_le n 999) [
         | yes l ↦ inr (over-some 800 hs (sym (ap (λ t. t && few 800 hs) (le-leb n 999 l)) ∙ e))
@@ -178,15 +178,15 @@ module _ (n : ℕ) (buffer : List ℕ) (hs : List (List ℕ)) (is : Holds (row_o
       none true e (inl l) = let x : n ≤ 999 = leb-true n 999 (and_left (leb n 999) _ e) in absurd (omega arith)
       none true e (inr o) = let x = over_none 800 hs (and_right (leb n 999) _ e) o.place o.there in absurd (omega (arith, o.large))
 
-      of_over : (999 < n) ⊎ Over 800 hs → form_answer Old n buffer ≡ Refused (refusal 21 0 0)
+      of_over : (999 < n) ⊎ Over 800 hs → form_answer Old n buffer ≡ Err (refusal 21 0 0)
       of_over o = form-refused Wide Old n buffer hs is (none (holds (row_of Old) n hs) refl o)
 
-  pub narrow_done : (form_answer Old n buffer ≡ Cards n) ↔ (((999 < n) ⊎ Over 800 hs) → ⊥)
+  pub narrow_done : (form_answer Old n buffer ≡ Ok n) ↔ (((999 < n) ⊎ Over 800 hs) → ⊥)
   narrow_done = (
     λ d o. refused-apart n (sym d ∙ narrow_not.1 o),
     λ x. go (holds (row_of Old) n hs) refl x,
   )
     where
-      go : (t : Bool) → holds (row_of Old) n hs ≡ t → (((999 < n) ⊎ Over 800 hs) → ⊥) → form_answer Old n buffer ≡ Cards n
+      go : (t : Bool) → holds (row_of Old) n hs ≡ t → (((999 < n) ⊎ Over 800 hs) → ⊥) → form_answer Old n buffer ≡ Ok n
       go true e x = form-done Wide Old n buffer hs is e
       go false e x = absurd (x (narrow_not.0 (form-refused Wide Old n buffer hs is e)))

@@ -5,7 +5,6 @@ use mathlib.Core.Path.{◌≡◌, refl, ap, subst, ◌∙◌}
 use mathlib.Core.Bool.{Bool, true, false, cond}
 use mathlib.Core.Logic.{◌↔◌}
 use mathlib.Core.List.{List}
-use mathlib.Core.Option.{Option, none, some}
 use lib.Dec.{ltb}
 use lib.ListN.{length, take, drop}
 use Rattle.base_refusal.specs.declared.Refusal.{Refusal}
@@ -14,35 +13,34 @@ use Rattle.base_lists.specs.Laid.{stored}
 use Rattle.value_field.proofs.spelling.Absence.{zero_one}
 use Rattle.card_laws.specs.exactly.Rows.{given, Exactly}
 use Rattle.card_laws.proofs.exactly.Given.{exactly}
-use Rattle.media_ebcdic.specs.declared.Translated.{Translated}
-use Rattle.media_ebcdic.specs.declared.Translated.TheVariants.{Done, Refused}
 use Rattle.media_ebcdic.specs.Translating.{Bytes, ascii_from, ebcdic_from, translated_for}
 use Rattle.media_ebcdic.proofs.Buffers.{written, kept, behind, ascii_length, ebcdic_length, tape_back, text_back}
 use Rattle.promises.specs.Ebcdic.{ascii_in, ebcdic_in, translate_rows}
+use Rattle.std.specs.Prelude.{Result, Ok, Err, Option, None, Some}
 
 -- the refusal in the answer
-abbrev in_answer : Translated → Option Refusal
-in_answer (Done n) = none
-in_answer (Refused r) = some r
+abbrev in_answer : Result ℕ Refusal → Option Refusal
+in_answer (Ok n) = None
+in_answer (Err r) = Some r
 
-refused_as : (a : Translated) (r : Refusal) → (a ≡ Refused r) ↔ (in_answer a ≡ some r)
-refused_as (Done n) r = (λ e. absurd (zero_one cc), λ e. absurd (zero_one cc))
-refused_as (Refused q) r = (λ e. ap in_answer e, λ e. let x : q ≡ r = cc in ap Refused x)
+refused_as : (a : Result ℕ Refusal) (r : Refusal) → (a ≡ Err r) ↔ (in_answer a ≡ Some r)
+refused_as (Ok n) r = (λ e. absurd (zero_one cc), λ e. absurd (zero_one cc))
+refused_as (Err q) r = (λ e. ap in_answer e, λ e. let x : q ≡ r = cc in ap Err x)
 
 pub translated_exactly : (bytes room : ℕ)
-    → Exactly (translate_rows bytes room) (λ r. translated_for bytes room ≡ Refused r) (translated_for bytes room ≡ Done bytes)
+    → Exactly (translate_rows bytes room) (λ r. translated_for bytes room ≡ Err r) (translated_for bytes room ≡ Ok bytes)
 unfolding translated_for given
 translated_exactly bytes room =
     exactly (translate_rows bytes room) (in_answer (translated_for bytes room)) (told (ltb room bytes))
     (refused_as (translated_for bytes room)) (done_as (ltb room bytes))
   where
-    told : (b : Bool) → in_answer (cond b (Refused (refusal 17 0 0)) (Done bytes)) ≡ cond b (some (refusal 17 0 0)) none
+    told : (b : Bool) → in_answer (cond b (Err (refusal 17 0 0)) (Ok bytes)) ≡ cond b (Some (refusal 17 0 0)) None
     told true = refl
     told false = refl
 
     done_as : (b : Bool)
-        → (cond b (Refused (refusal 17 0 0)) (Done bytes) ≡ Done bytes)
-        ↔ (in_answer (cond b (Refused (refusal 17 0 0)) (Done bytes)) ≡ none)
+        → (cond b (Err (refusal 17 0 0)) (Ok bytes) ≡ Ok bytes)
+        ↔ (in_answer (cond b (Err (refusal 17 0 0)) (Ok bytes)) ≡ None)
     done_as true = (λ e. absurd (zero_one cc), λ e. absurd (zero_one cc))
     done_as false = (λ e. refl, λ e. refl)
 

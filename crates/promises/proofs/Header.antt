@@ -5,12 +5,11 @@ use mathlib.Core.Path.{◌≡◌, refl, sym, ap, ap₂, ◌∙◌}
 use mathlib.Core.Bool.{Bool, true, false, cond, not}
 use mathlib.Core.Logic.{◌↔◌}
 use mathlib.Core.List.{List, [], ◌∷◌, map}
-use mathlib.Core.Option.{Option, none, some}
 use lib.Dec.{eqb, ltb}
 use lib.ListN.{length, take}
 use borrow.Author.Tests.{lt-ltb, le-ltb}
 use Rattle.base_refusal.specs.declared.Refusal.{Refusal}
-use Rattle.base_refusal.specs.Refusals.{refusal}
+use Rattle.base_refusal.specs.Refusals.{refusal, no_refusal}
 use Rattle.base_lists.specs.Count.{first, first_from}
 use Rattle.value_text.specs.text.Texts.{printable}
 use Rattle.value_text.specs.printable.Bytes.{first_bad}
@@ -19,8 +18,6 @@ use Rattle.format_code.specs.declared.Code.{Code}
 use Rattle.format_code.specs.declared.Code.TheVariants as code
 use Rattle.format_code.specs.Codes.{code_of}
 use Rattle.format_layout.specs.declared.Form.{Form}
-use Rattle.card_check.specs.declared.Verdict.{Verdict}
-use Rattle.card_check.specs.declared.Verdict.TheVariants.{Fine, Offence}
 use Rattle.card_check.specs.Judging.{verdict_of}
 use Rattle.card_laws.specs.exactly.Rows.{Row, given, Exactly}
 use Rattle.card_laws.specs.exactly.Words.{is_unknown}
@@ -28,19 +25,20 @@ use Rattle.card_laws.specs.exactly.Tables.{columns_from, judge_rows, in_verdict}
 use Rattle.card_laws.proofs.exactly.Given.{or_else, given-append, exactly}
 use Rattle.card_laws.proofs.exactly.Way.{bad-byte}
 use Rattle.card_laws.proofs.exactly.Cards.{verdict_given}
-use Rattle.header_check.specs.declared.Checked.{Checked}
-use Rattle.header_check.specs.declared.Checked.TheVariants.{Accepted, Refused}
 use Rattle.header_check.specs.forms.Cards.{card_at, cards_in}
 use Rattle.header_check.specs.forms.Forms.{form_of}
 use Rattle.header_check.specs.Opening.{has_line, stands_at}
 use Rattle.header_check.specs.Refusing.{largest, is_unknown as no_code, readable, placed_verdict, end_verdict, verdict_at, offends, answer_for, answer_at, cards_answer, refusal_of}
 use Rattle.header_laws.proofs.Rows.{eighty}
 use Rattle.promises.specs.Header.{on_card, card_rows, rows_from, header_rows, in_check}
+use Rattle.std.specs.Prelude.{Result, Ok, Err, ⊤, Option, None, Some}
+use Rattle.card_check.specs.declared.Offence.{Offence}
+use Rattle.card_check.specs.Verdicts.{offending}
 
 -- a refusal told of the card with a number
 abbrev told : ℕ → Option Refusal → Option Refusal
-told card none = none
-told card (some r) = some (refusal r.number card r.column)
+told card None = None
+told card (Some r) = Some (refusal r.number card r.column)
 
 told_rows : (card : ℕ) (rows : List Row) → given (map (on_card card) rows) ≡ told card (given rows)
 unfolding given
@@ -48,15 +46,15 @@ told_rows card [] = refl
 told_rows card (r ∷ rows) = go r.test (told_rows card rows)
   where
     go : (b : Bool) → given (map (on_card card) rows) ≡ told card (given rows)
-        → cond b (some (refusal r.gives.number card r.gives.column)) (given (map (on_card card) rows))
-        ≡ told card (cond b (some r.gives) (given rows))
+        → cond b (Some (refusal r.gives.number card r.gives.column)) (given (map (on_card card) rows))
+        ≡ told card (cond b (Some r.gives) (given rows))
     go true e = refl
     go false e = e
 
-told_verdict : (card : ℕ) (v : Verdict) → told card (in_verdict v) ≡ in_check (answer_for v card)
+told_verdict : (card : ℕ) (v : Result ⊤ Offence) → told card (in_verdict v) ≡ in_check (answer_for v card)
 unfolding answer_for
-told_verdict card Fine = refl
-told_verdict card (Offence n c) = refl
+told_verdict card (Ok _) = refl
+told_verdict card (Err o) = refl
 
 same_unknown : (c : Code) → no_code c ≡ is_unknown c
 same_unknown code.Unknown = refl
@@ -70,13 +68,13 @@ unfolding judge_rows given
 columns-given s form whole p u = verdict_given s form ∙ rw (whole, p, u)
 
 -- an answer by the refusal in it
-refused_as : (a : Checked) (r : Refusal) → (a ≡ Refused r) ↔ (in_check a ≡ some r)
-refused_as Accepted r = (λ e. absurd (zero_one cc), λ e. absurd (zero_one cc))
-refused_as (Refused q) r = (λ e. ap in_check e, λ e. let x : q ≡ r = cc in ap Refused x)
+refused_as : (a : Result ⊤ Refusal) (r : Refusal) → (a ≡ Err r) ↔ (in_check a ≡ Some r)
+refused_as (Ok _) r = (λ e. absurd (zero_one cc), λ e. absurd (zero_one cc))
+refused_as (Err q) r = (λ e. ap in_check e, λ e. let x : q ≡ r = cc in ap Err x)
 
-accepted_as : (a : Checked) → (a ≡ Accepted) ↔ (in_check a ≡ none)
-accepted_as Accepted = (λ e. refl, λ e. refl)
-accepted_as (Refused q) = (λ e. absurd (zero_one cc), λ e. absurd (zero_one cc))
+accepted_as : (a : Result ⊤ Refusal) → (a ≡ no_refusal) ↔ (in_check a ≡ None)
+accepted_as (Ok _) = (λ e. refl, λ e. refl)
+accepted_as (Err q) = (λ e. absurd (zero_one cc), λ e. absurd (zero_one cc))
 
 module _ (h : List ℕ) where
   card_given : (c : ℕ) → c < cards_in h → given (card_rows h c) ≡ in_check (answer_at h c)
@@ -87,10 +85,10 @@ module _ (h : List ℕ) where
       (go (printable s) refl (is_unknown (code_of (take 5 s))) refl (stands_at h c))
     where
       go : (p : Bool) → printable (card_at h c) ≡ p → (u : Bool) → is_unknown (code_of (take 5 (card_at h c))) ≡ u → (placed : Bool)
-          → cond (not p) (some (refusal 4 (c + 1) (first_bad (card_at h c) + 1))) (cond u (some (refusal 5 (c + 1) 1))
-          (cond (not placed) (some (refusal 6 (c + 1) 1)) (given (map (on_card (c + 1)) (columns_from (form_of h (card_at h c)) (card_at h c) 75 6)))))
-          ≡ in_check (answer_for (cond (not p) (Offence 4 (first_bad (card_at h c) + 1)) (cond u (Offence 5 1)
-          (cond placed (verdict_of (card_at h c) (form_of h (card_at h c))) (Offence 6 1)))) (c + 1))
+          → cond (not p) (Some (refusal 4 (c + 1) (first_bad (card_at h c) + 1))) (cond u (Some (refusal 5 (c + 1) 1))
+          (cond (not placed) (Some (refusal 6 (c + 1) 1)) (given (map (on_card (c + 1)) (columns_from (form_of h (card_at h c)) (card_at h c) 75 6)))))
+          ≡ in_check (answer_for (cond (not p) (Err (offending 4 (first_bad (card_at h c) + 1))) (cond u (Err (offending 5 1))
+          (cond placed (verdict_of (card_at h c) (form_of h (card_at h c))) (Err (offending 6 1))))) (c + 1))
       go false p u e placed = refl
       go true p true e placed = refl
       go true p false e false = refl
@@ -103,17 +101,17 @@ module _ (h : List ℕ) where
   unfolding rows_from given answer_at verdict_at end_verdict answer_for
   end_given c e = rw (le-ltb c (cards_in h) (omega arith)) (go (has_line h))
     where
-      go : (b : Bool) → cond (not b) (some (refusal 6 (c + 1) 1)) none ≡ in_check (answer_for (cond b Fine (Offence 6 1)) (c + 1))
+      go : (b : Bool) → cond (not b) (Some (refusal 6 (c + 1) 1)) None ≡ in_check (answer_for (cond b no_refusal (Err (offending 6 1))) (c + 1))
       go true = refl
       go false = refl
 
   -- what a card answers, or what those behind it do
-  decided : (c n : ℕ) (v : Verdict) → verdict_at h c ≡ v
+  decided : (c n : ℕ) (v : Result ⊤ Offence) → verdict_at h c ≡ v
       → or_else (in_check (answer_at h c)) (in_check (answer_at h (first_from (offends h) n (suc c))))
       ≡ in_check (answer_at h (cond (offends h c) c (first_from (offends h) n (suc c))))
   unfolding offends answer_at answer_for
-  decided c n Fine e = rw e
-  decided c n (Offence m d) e = rw (e, e)
+  decided c n (Ok _) e = rw e
+  decided c n (Err o) e = rw (e, e)
 
   -- from a card on, the first offence decides
   from-given : (n c : ℕ) → c + n ≡ cards_in h → given (rows_from h n c) ≡ in_check (answer_at h (first_from (offends h) n c))
@@ -130,8 +128,8 @@ module _ (h : List ℕ) where
   header-given = go (eqb (length h) 0) (not (eqb (length h % 80) 0)) (ltb largest (cards_in h))
     where
       go : (a b d : Bool)
-          → cond a (some (refusal 1 0 0)) (cond b (some (refusal 2 0 0)) (cond d (some (refusal 3 0 0)) (given (rows_from h (cards_in h) 0))))
-          ≡ in_check (cond a (Refused (refusal 1 0 0)) (cond b (Refused (refusal 2 0 0)) (cond d (Refused (refusal 3 0 0))
+          → cond a (Some (refusal 1 0 0)) (cond b (Some (refusal 2 0 0)) (cond d (Some (refusal 3 0 0)) (given (rows_from h (cards_in h) 0))))
+          ≡ in_check (cond a (Err (refusal 1 0 0)) (cond b (Err (refusal 2 0 0)) (cond d (Err (refusal 3 0 0))
           (answer_at h (first_from (offends h) (cards_in h) 0)))))
       go true b d = refl
       go false true d = refl
@@ -139,6 +137,6 @@ module _ (h : List ℕ) where
       go false false false = from-given (cards_in h) 0 (omega arith)
 
   -- so it is refused exactly as they say
-  pub header_exactly : Exactly (header_rows h) (λ r. refusal_of h ≡ Refused r) (refusal_of h ≡ Accepted)
+  pub header_exactly : Exactly (header_rows h) (λ r. refusal_of h ≡ Err r) (refusal_of h ≡ no_refusal)
   header_exactly =
       exactly (header_rows h) (in_check (refusal_of h)) (sym header-given) (refused_as (refusal_of h)) (accepted_as (refusal_of h))

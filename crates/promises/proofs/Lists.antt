@@ -13,24 +13,23 @@ use Rattle.base_lists.specs.Parts.{part}
 use Rattle.base_lists.specs.Laid.{laid}
 use Rattle.base_lists.proofs.Laying.{length-laid}
 use Rattle.format_layout.specs.Names.{H00X9}
-use Rattle.header_check.specs.declared.Checked.{Checked}
-use Rattle.header_check.specs.declared.Checked.TheVariants.{Accepted, Refused}
 use Rattle.header_check.specs.forms.Cards.{card_at, cards_in, layout_of}
 use Rattle.header_check.specs.Refusing.{refusal_of}
 use Rattle.header_laws.proofs.Moved.{accepted-opens}
 use Rattle.tie_rules.specs.Faults.{broken, faults, entry_size, entry_for, entry_of, entries}
-use Rattle.tie_check.specs.declared.Ties.TheVariants.{Found}
 use Rattle.tie_check.specs.Answer.{answer_for, list_for}
 use Rattle.tie_laws.proofs.Complete as complete
 use Rattle.tie_laws.proofs.Moved.{reordered, entry-moved}
 use Rattle.tie_laws.proofs.Rearranged.{rearranged_alike}
 use Rattle.promises.specs.Words.{list_of, opens, Moved}
+use Rattle.std.specs.Prelude.{Result, Ok, Err, ⊤}
+use Rattle.base_refusal.specs.Refusals.{no_refusal}
 
-pub refused_check : (h l : List ℕ) (r : Refusal) → refusal_of h ≡ Refused r → list_for (refusal_of h) l (entries h) ≡ l
+pub refused_check : (h l : List ℕ) (r : Refusal) → refusal_of h ≡ Err r → list_for (refusal_of h) l (entries h) ≡ l
 unfolding list_for
 refused_check h l r e = rw e
 
-pub number : (h : List ℕ) → refusal_of h ≡ Accepted → answer_for (refusal_of h) (length (faults h)) ≡ Found (length (list_of h))
+pub number : (h : List ℕ) → refusal_of h ≡ no_refusal → answer_for (refusal_of h) (length (faults h)) ≡ Ok (length (list_of h))
 unfolding answer_for
 number h a = rw (a, length-map (faults h) (entry_of h))
 
@@ -49,7 +48,7 @@ nothing_else h e m =
     )
 
 module _ (h l : List ℕ) where
-  module _ (a : refusal_of h ≡ Accepted) where
+  module _ (a : refusal_of h ≡ no_refusal) where
     is-laid : list_for (refusal_of h) l (entries h) ≡ laid entry_size l (entries h)
     unfolding list_for
     is-laid = rw a
@@ -66,12 +65,12 @@ module _ (h l : List ℕ) where
   unfolding list_for
   as_long = go (refusal_of h)
     where
-      go : (c : Checked) → length (list_for c l (entries h)) ≡ length l
-      go Accepted = length-laid entry_size l (entries h)
-      go (Refused r) = refl
+      go : (c : Result ⊤ Refusal) → length (list_for c l (entries h)) ≡ length l
+      go (Ok _) = length-laid entry_size l (entries h)
+      go (Err r) = refl
 
-pub moved : (h h' : List ℕ) (a : refusal_of h ≡ Accepted) (m : Moved h h')
-    → (refusal_of h' ≡ Accepted)
+pub moved : (h h' : List ℕ) (a : refusal_of h ≡ no_refusal) (m : Moved h h')
+    → (refusal_of h' ≡ no_refusal)
     × (answer_for (refusal_of h') (length (faults h')) ≡ answer_for (refusal_of h) (length (faults h)))
     × ((c column kind vessel : ℕ) → c < cards_in h
     → Memᴰ ((c + 1) ∷ column ∷ kind ∷ vessel ∷ []) (list_of h)

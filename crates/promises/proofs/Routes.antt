@@ -6,8 +6,7 @@ use mathlib.Core.Bool.{true, false}
 use mathlib.Core.List.{List}
 use lib.ListN.{length}
 use Rattle.base_refusal.specs.declared.Refusal.{Refusal}
-use Rattle.base_refusal.specs.Refusals.{refusal}
-use Rattle.header_check.specs.declared.Checked.TheVariants.{Accepted, Refused}
+use Rattle.base_refusal.specs.Refusals.{refusal, no_refusal}
 use Rattle.header_check.specs.Refusing.{refusal_of}
 use Rattle.survey_datums.specs.routing.Chains.{distance, route_from, next}
 use Rattle.survey_datums.specs.Datums.{is_defined, some_twice}
@@ -17,17 +16,18 @@ use Rattle.survey_datums.proofs.Chained as chained
 use Rattle.survey_datums.proofs.Moved as moved
 use Rattle.survey_datums.proofs.Ways as ways
 use Rattle.promises.specs.Words.{Moved}
+use Rattle.std.specs.Prelude.{Err}
 
 -- A refused header's refusal comes first, then 22 where a datum is defined more than once; else the routes are told.
-pub routes_refused : (h : List ℕ) (r : Refusal) → refusal_of h ≡ Refused r → routes_of h ≡ refused_with r
+pub routes_refused : (h : List ℕ) (r : Refusal) → refusal_of h ≡ Err r → routes_of h ≡ refused_with r
 unfolding routes_of routes_for
 routes_refused h r e = rw e
 
-pub defined_twice : (h : List ℕ) → refusal_of h ≡ Accepted → some_twice h ≡ true → routes_of h ≡ refused_with (refusal 22 0 0)
+pub defined_twice : (h : List ℕ) → refusal_of h ≡ no_refusal → some_twice h ≡ true → routes_of h ≡ refused_with (refusal 22 0 0)
 unfolding routes_of routes_for
 defined_twice h e t = rw (e, t)
 
-pub routes_told : (h : List ℕ) → refusal_of h ≡ Accepted → some_twice h ≡ false → routes_of h ≡ told_of h
+pub routes_told : (h : List ℕ) → refusal_of h ≡ no_refusal → some_twice h ≡ false → routes_of h ≡ told_of h
 unfolding routes_of routes_for
 routes_told h e t = rw (e, t)
 

@@ -21,7 +21,6 @@ use Rattle.format_layout.specs.Names.{H00X9, H0100}
 use Rattle.format_code.specs.declared.Code.{Code}
 use Rattle.format_code.specs.declared.Code.TheVariants as code
 use Rattle.format_code.specs.Codes.{byte_fits, fits_at, fits, codes, place_in, code_at, code_of}
-use Rattle.header_check.specs.declared.Checked.TheVariants.{Accepted}
 use Rattle.header_check.specs.forms.Cards.{card_at, cards_in, layout_of, unread, number_of}
 use Rattle.header_check.specs.Refusing.{refusal_of}
 use Rattle.header_laws.proofs.Exactly.{accepted_exactly}
@@ -35,6 +34,7 @@ use Rattle.tie_laws.proofs.Moved.{Reordered, broken-moved, gone_unbroken}
 use Rattle.tie_laws.proofs.Untied.{Untied, C0001, C0002, first_comments, second_comments, passed_over}
 use Rattle.tie_laws.proofs.Taken.{list_taken}
 use Rattle.promises.specs.Words.{list_of, is_passed, may_skip, Skipped, without, new_number, moved_down}
+use Rattle.base_refusal.specs.Refusals.{no_refusal}
 
 -- the layout of a card that a reader may skip
 data Skips (k : ℕ) : Type 0 where
@@ -150,7 +150,7 @@ module _ (away : ℕ → Bool) where
       pub taken_list : list_of (without away h) ≡ map (moved_down away) (list_of h)
       taken_list = list_taken h (without away h) reordered (λ c. refl) (moved_down away) renumbers
 
-      module _ (a : refusal_of h ≡ Accepted) where
+      module _ (a : refusal_of h ≡ no_refusal) where
         abbrev opening : Opens h
         opening = header.accepted-opens h a
 
@@ -167,7 +167,7 @@ module _ (away : ℕ → Bool) where
             go true e = refl
             go false e = absurd (omega (arith, low, behind (layout_of (card_at h c)) (skipped c (omega (arith, l, opening.inside)) e)))
 
-        pub taken_accepted : refusal_of (without away h) ≡ Accepted
+        pub taken_accepted : refusal_of (without away h) ≡ no_refusal
         taken_accepted = header.accepted-there h (without away h) (record {
           stays = stays;
           order = order;

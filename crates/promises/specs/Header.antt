@@ -1,6 +1,5 @@
 -- The rows of a header's refusals, in the paper's order: number, card, column, and when.
-use Rattle.std.specs.Prelude.{ℕ, zero, suc, ◌+◌, ◌%◌, not, List, [], ◌∷◌, ◌++◌, map, eqb, ltb, length, take}
-use Rattle.std.proofs.Math.Option.{Option, none, some}
+use Rattle.std.specs.Prelude.{ℕ, zero, suc, ◌+◌, ◌%◌, not, List, [], ◌∷◌, ◌++◌, map, eqb, ltb, length, take, Option, None, Some, Result, Ok, Err, ⊤}
 use Rattle.base_refusal.specs.declared.Refusal.{Refusal}
 use Rattle.base_refusal.specs.Refusals.{refusal}
 use Rattle.value_text.specs.text.Texts.{printable}
@@ -9,8 +8,6 @@ use Rattle.format_code.specs.Codes.{code_of}
 use Rattle.card_laws.specs.exactly.Rows.{Row, row}
 use Rattle.card_laws.specs.exactly.Words.{is_unknown}
 use Rattle.card_laws.specs.exactly.Tables.{columns_from}
-use Rattle.header_check.specs.declared.Checked.{Checked}
-use Rattle.header_check.specs.declared.Checked.TheVariants.{Accepted, Refused}
 use Rattle.header_check.specs.forms.Cards.{card_at, cards_in}
 use Rattle.header_check.specs.forms.Forms.{form_of}
 use Rattle.header_check.specs.Opening.{has_line, stands_at}
@@ -42,6 +39,6 @@ header_rows h =
     rows_from h (cards_in h) 0
 
 -- the refusal in the answer
-abbrev pub in_check : Checked → Option Refusal
-in_check Accepted = none
-in_check (Refused r) = some r
+abbrev pub in_check : Result ⊤ Refusal → Option Refusal
+in_check (Ok _) = None
+in_check (Err r) = Some r

@@ -1,11 +1,8 @@
 -- The rows of the conversions' refusals, in the paper's order: number, card or line, column, and when.
-use Rattle.std.specs.Prelude.{ℕ, zero, suc, ◌+◌, ◌*◌, ◌/◌, ◌%◌, cond, not, ◌&&◌, ◌||◌, List, [], ◌∷◌, ◌++◌, eqb, ltb, length, take, drop}
-use Rattle.std.proofs.Math.Option.{Option, none, some}
+use Rattle.std.specs.Prelude.{ℕ, zero, suc, ◌+◌, ◌*◌, ◌/◌, ◌%◌, cond, not, ◌&&◌, ◌||◌, List, [], ◌∷◌, ◌++◌, eqb, ltb, length, take, drop, Option, None, Some, Result, Ok, Err}
 use Rattle.base_refusal.specs.declared.Refusal.{Refusal}
 use Rattle.value_text.specs.printable.Bytes.{first_bad}
 use Rattle.card_laws.specs.exactly.Rows.{Row, row}
-use Rattle.media_diskette.specs.declared.Converted.{Converted}
-use Rattle.media_diskette.specs.declared.Converted.TheVariants.{Length, Refused}
 use Rattle.media_diskette.specs.Lines.{cr, lf, disk_of, lines_in}
 use Rattle.media_diskette.specs.Answers.{largest}
 
@@ -44,6 +41,6 @@ from_rows f room =
     (file_rows 0 0 f ++ (row 3 0 0 (ltb largest (length (lines_in f))) ∷ row 17 0 0 (ltb room (length (lines_in f) * 80)) ∷ []))
 
 -- the refusal in the answer
-abbrev pub in_converted : Converted → Option Refusal
-in_converted (Length n) = none
-in_converted (Refused r) = some r
+abbrev pub in_converted : Result ℕ Refusal → Option Refusal
+in_converted (Ok n) = None
+in_converted (Err r) = Some r

@@ -1,6 +1,6 @@
 -- The words in which the promises speak of cards that were written, of lists of faults, and of cards that change places or are taken
 -- away.
-use Rattle.std.specs.Prelude.{ℕ, ◌+◌, ◌-◌, ◌<◌, ◌≡◌, Bool, true, false, not, ◌||◌, ◌⊎◌, leb, length, get_or, take, drop}
+use Rattle.std.specs.Prelude.{ℕ, ◌+◌, ◌-◌, ◌<◌, ◌≡◌, Bool, true, false, not, ◌||◌, ◌⊎◌, leb, length, get_or, take, drop, Result, ⊤}
 use mathlib.Core.List.{List, [], ◌∷◌, map, flat_map}
 use Rattle.base_lists.specs.Count.{count, Rearranged}
 use Rattle.base_lists.specs.Parts.{kept, up_to, alike}
@@ -11,20 +11,20 @@ use Rattle.format_layout.specs.Names.{H00X9}
 use Rattle.format_code.specs.declared.Code.{Code}
 use Rattle.format_code.specs.declared.Code.TheVariants as code
 use Rattle.format_code.specs.Codes.{code_of}
-use Rattle.card_put.specs.declared.Entered.{Entered}
 use Rattle.card_put.specs.Putting.{answer_of, left_by, putting_of, putting_text_of}
 use Rattle.header_check.specs.forms.Cards.{card_at, cards_in, layout_of}
 use Rattle.tie_rules.specs.Faults.{faults, entry_of}
+use Rattle.base_refusal.specs.declared.Refusal.{Refusal}
 
 -- what putting a value into a field answers, and the card then
-abbrev pub put_answer : List ℕ → ℕ → ℕ → Value → Entered
+abbrev pub put_answer : List ℕ → ℕ → ℕ → Value → Result ⊤ Refusal
 put_answer s n form v = answer_of (putting_of s n form v)
 
 abbrev pub put_card : List ℕ → ℕ → ℕ → Value → List ℕ
 put_card s n form v = left_by (putting_of s n form v) s
 
 -- the same of a text
-abbrev pub text_answer : List ℕ → ℕ → ℕ → List ℕ → Entered
+abbrev pub text_answer : List ℕ → ℕ → ℕ → List ℕ → Result ⊤ Refusal
 text_answer s n form t = answer_of (putting_text_of s n form t)
 
 abbrev pub text_card : List ℕ → ℕ → ℕ → List ℕ → List ℕ

@@ -19,8 +19,6 @@ use Rattle.tie_lookup.specs.declared.questions.Key.TheVariants as key
 use Rattle.tie_lookup.specs.declared.questions.Defined.{Defined}
 use Rattle.tie_lookup.specs.declared.questions.Defined.TheVariants as defined
 use Rattle.tie_lookup.specs.questions.Questions.{key_answer}
-use Rattle.survey_compass.specs.declared.Heading.{Heading}
-use Rattle.survey_compass.specs.declared.Heading.TheVariants.{Is, Refused}
 use Rattle.survey_compass.specs.Serials.{cards_for, card_for}
 use Rattle.survey_compass.specs.Directions.{mark_at, listed_twice, apart, unlisted, rank_at, least_to, least_rank, nearest}
 use Rattle.survey_compass.specs.Corrections.{fixed_on, nearest_on, summed_on, turn, within, turned}
@@ -28,27 +26,28 @@ use Rattle.survey_compass.specs.Headings.{off_circle, bad_reading, heading_on, h
 use Rattle.survey_compass.proofs.Nearest.{mark_low, apart_low, rank_some, least_had}
 use Rattle.survey_compass.proofs.Reordered.{least_low, nearest_has, low, unranked}
 use Rattle.survey_compass.proofs.Turning.{turn-some, within_below, multiples}
+use Rattle.std.specs.Prelude.{Result, Ok, Err}
 
 -- a heading is the sum by the only card for the serial, taken into the circle
-tested : (a : Bool) (r : Refusal) (y : Heading) (d : Decimal) → cond a (Refused r) y ≡ Is d → y ≡ Is d
+tested : (a : Bool) (r : Refusal) (y : Result Decimal Refusal) (d : Decimal) → cond a (Err r) y ≡ Ok d → y ≡ Ok d
 tested true r y d e = absurd (zero_one cc)
 tested false r y d e = e
 
-passed : (a : Bool) (r : Refusal) (y : Heading) (d : Decimal) → cond a y (Refused r) ≡ Is d → y ≡ Is d
+passed : (a : Bool) (r : Refusal) (y : Result Decimal Refusal) (d : Decimal) → cond a y (Err r) ≡ Ok d → y ≡ Ok d
 passed true r y d e = e
 passed false r y d e = absurd (zero_one cc)
 
-by_key : (x : Defined) (y : Heading) (d : Decimal) → heading_by x y ≡ Is d → y ≡ Is d
+by_key : (x : Result Defined Refusal) (y : Result Decimal Refusal) (d : Decimal) → heading_by x y ≡ Ok d → y ≡ Ok d
 unfolding heading_by
-by_key (defined.Refused r) y d e = absurd (zero_one cc)
-by_key defined.None y d e = absurd (zero_one cc)
-by_key (defined.Several n) y d e = absurd (zero_one cc)
-by_key (defined.Only card column) y d e = e
+by_key (Err r) y d e = absurd (zero_one cc)
+by_key (Ok defined.None) y d e = absurd (zero_one cc)
+by_key (Ok (defined.Several n)) y d e = absurd (zero_one cc)
+by_key (Ok (defined.Only card column)) y d e = e
 
-same_decimal : (x d : Decimal) → Is x ≡ Is d → d ≡ x
+same_decimal : (x d : Decimal) → ◌≡◌ {A = Result Decimal Refusal} (Ok x) (Ok d) → d ≡ x
 same_decimal x d e = let q : x ≡ d = cc in sym q
 
-pub heading_is : (h serial : List ℕ) (raw : Decimal) (direction : ℤ) (d : Decimal) → heading_of h serial raw direction ≡ Is d
+pub heading_is : (h serial : List ℕ) (raw : Decimal) (direction : ℤ) (d : Decimal) → heading_of h serial raw direction ≡ Ok d
     → d ≡ turned (summed_on (card_for h (text_of serial)) raw (nat_abs direction % 360))
 unfolding heading_of heading_for heading_on
 heading_is h serial raw direction d e =
@@ -56,8 +55,8 @@ heading_is h serial raw direction d e =
     let a = by_key (key_answer h 4 key.Text serial) (heading_for h (text_of serial) raw direction) d e in
     let b = passed (eqb (cards_for h (text_of serial)) 1) (refusal 24 0 0) (heading_on s raw direction) d a in
     let x = turned (summed_on s raw (nat_abs direction % 360)) in
-    let c = tested (off_circle direction || listed_twice s) (refusal 25 0 0) (cond (bad_reading raw) (Refused (refusal 26 0 0)) (Is x)) d b in
-    same_decimal x d (tested (bad_reading raw) (refusal 26 0 0) (Is x) d c)
+    let c = tested (off_circle direction || listed_twice s) (refusal 25 0 0) (cond (bad_reading raw) (Err (refusal 26 0 0)) (Ok x)) d b in
+    same_decimal x d (tested (bad_reading raw) (refusal 26 0 0) (Ok x) d c)
 
 -- it lies in 0 to under 360, and differs from the sum by whole turns
 pub in_circle : (d : Decimal) → (n : ℕ) × ((turned d).units ≡ pos n) × (n < turn d.places)

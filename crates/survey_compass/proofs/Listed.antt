@@ -1,30 +1,33 @@
 -- The steps of counting: cards for a serial, pairs that list a direction.
 use Prim.Native.Nat.{ℕ, ◌+◌, ◌*◌, ◌-◌, ◌%◌, ◌≤◌}
 use native.Mathlib.Omega.{arith}
-use mathlib.Core.Path.{◌≡◌, refl, sym, ap, ap₂, ◌∙◌}
-use mathlib.Core.Bool.{Bool, false}
+use mathlib.Core.Path.{◌≡◌, refl, sym, ap, ◌∙◌}
+use mathlib.Core.Bool.{Bool}
 use mathlib.Core.List.{List, [], ◌∷◌}
+use lib.Dec.{eqb}
 use lib.ListN.{length, take, drop, length-drop}
 use lib.Seq.{length-take-le}
+use Rattle.std.specs.Str.{bytes_eq}
 use borrow.Author.Tests.{eq-eqb, ne_eqb}
-use Rattle.base_lists.specs.Count.{bit, count}
 use Rattle.base_lists.specs.Parts.{alike}
-use Rattle.base_lists.proofs.Counting.{count_more}
 use Rattle.value_text.specs.text.Texts.{text_of}
 use Rattle.header_check.specs.forms.Cards.{layout_of}
-use Rattle.header_check.proofs.forms.Steps.{card_part}
 use Rattle.tie_rules.specs.Keys.{between}
 use Rattle.tie_rules.specs.packed.Rows.{marked}
-use Rattle.survey_compass.specs.Serials.{is_for, is_for_at}
+use Rattle.survey_compass.specs.Serials.{is_for}
 use Rattle.survey_compass.specs.Directions.{mark_of}
 
--- one more that is counted, or not
-pub tallied : (p : ℕ → Bool) (i n b : ℕ) (t : Bool) → n ≡ count p i → b ≡ bit t → t ≡ p i → n + b ≡ count p (i + 1)
-tallied p i n b t e q f = ap₂ ◌+◌ e (q ∙ ap bit f) ∙ sym (count_more p i)
+-- `==` on two texts compares as `alike` does
+pub alike_is : (s t : List ℕ) → bytes_eq s t ≡ alike s t
+unfolding alike
+alike_is [] [] = refl
+alike_is [] (y ∷ t) = refl
+alike_is (x ∷ s) [] = refl
+alike_is (x ∷ s) (y ∷ t) = rw (alike_is s t)
 
 -- a card is for a serial
 module _ (serial s : List ℕ) (k : ℕ) (is : k ≡ layout_of s) where
-  pub for_none : (k ≡ 24 → ⊥) → false ≡ is_for serial s
+  pub for_none : (k ≡ 24 → ⊥) → eqb k 24 ≡ is_for serial s
   unfolding is_for
   for_none h = rw (← is, ne_eqb k 24 h)
 
@@ -55,7 +58,3 @@ pub length_part : (h : List ℕ) (c : ℕ) → c * 80 + 80 ≤ length h → leng
 length_part h c l =
     let e : c * 80 + 80 - c * 80 ≡ 80 = omega arith in
     rw e (length-take-le 80 (drop (c * 80) h) (rw length-drop (omega (arith, l))))
-
-pub at_card : (h serial : List ℕ) (c : ℕ) (t : Bool) → t ≡ is_for serial (take (c * 80 + 80 - c * 80) (drop (c * 80) h)) → t ≡ is_for_at h serial c
-unfolding is_for_at
-at_card h serial c t e = e ∙ ap (is_for serial) (card_part h c)

@@ -1,11 +1,10 @@
 -- The nearest listed direction: the least rank, and the pair that has it.
-use Prim.Native.Nat.{ℕ, zero, suc, ◌+◌, ◌-◌, ◌*◌, ◌%◌, ◌≤◌, ◌<◌, min}
+use Prim.Native.Nat.{ℕ, zero, suc, ◌+◌, ◌-◌, ◌*◌, ◌≤◌, ◌<◌, min}
 use native.Mathlib.Decide.{dec_le}
 use native.Mathlib.Nat.{mod-lt}
-use native.Mathlib.Numerals.{add-one}
 use native.Mathlib.Omega.{arith}
-use mathlib.Core.Path.{◌≡◌, refl, sym, ap, ap₂, ◌∙◌}
-use mathlib.Core.Bool.{true, false}
+use mathlib.Core.Path.{◌≡◌, refl, sym, ◌∙◌}
+use mathlib.Core.Bool.{true}
 use mathlib.Core.List.{List, [], ◌∷◌}
 use mathlib.Core.Logic.{◌⊎◌, inl, inr}
 use borrow.Author.Tests.{eq-eqb, ne_eqb}
@@ -23,10 +22,6 @@ pub apart_low : (a b : ℕ) → apart a b < 360
 unfolding apart
 apart_low a b = omega (arith, mod-lt (a + 360 - b) {m = 360} (omega arith))
 
-pub apart-is : (a b r : ℕ) → r ≡ min ((a + 360 - b) % 360) ((b + 360 - a) % 360) → (r ≡ apart a b) × (r < 360)
-unfolding apart
-apart-is a b r e = (e, omega (arith, e, apart_low a b))
-
 -- the rank of a direction
 pub rank_none : (asked mark : ℕ) → mark ≡ 0 → unlisted ≡ rank_of asked mark
 unfolding rank_of
@@ -37,19 +32,6 @@ unfolding rank_of
 rank_some asked mark far h e = rw (ne_eqb mark 0 h, e)
 
 module _ (s : List ℕ) (asked : ℕ) where
-  -- the least rank of no pairs, and of one more
-  pub least-none : unlisted ≡ least_to s asked 0
-  unfolding least_to
-  least-none = refl
-
-  pub least_more : (i n r x : ℕ) → n ≡ least_to s asked i → r ≡ rank_at s asked i → x ≡ min n r → x ≡ least_to s asked (i + 1)
-  unfolding least_to
-  least_more i n r x e q m = m ∙ ap₂ min e q ∙ sym (ap (least_to s asked) (add-one i))
-
-  pub least-all : (i n : ℕ) → n ≡ least_to s asked i → i ≡ 8 → n ≡ least_rank s asked
-  unfolding least_rank
-  least-all i n e q = e ∙ ap (least_to s asked) q
-
   -- a pair has it, unless no direction is listed
   abbrev Had : ℕ → ℕ → Type 0
   Had n l = (l ≡ unlisted) ⊎ ((i : ℕ) × (i < n) × (rank_at s asked i ≡ l))
@@ -73,10 +55,6 @@ module _ (s : List ℕ) (asked : ℕ) where
   pub nearest-is : (i r least : ℕ) → r ≡ rank_at s asked i → least ≡ least_rank s asked → r ≡ least → is_nearest s asked i ≡ true
   unfolding is_nearest
   nearest-is i r least e q h = eq-eqb (rank_at s asked i) (least_rank s asked) (sym e ∙ h ∙ q)
-
-  pub nearest-not : (i r least : ℕ) → r ≡ rank_at s asked i → least ≡ least_rank s asked → (r ≡ least → ⊥) → is_nearest s asked i ≡ false
-  unfolding is_nearest
-  nearest-not i r least e q h = ne_eqb (rank_at s asked i) (least_rank s asked) (λ k. h (e ∙ k ∙ sym q))
 
   pub nearest_below : (least_rank s asked ≡ unlisted → ⊥) → nearest s asked < 8
   unfolding nearest least_rank

@@ -3,23 +3,20 @@ use Prim.Native.Nat.{ℕ, ◌+◌, ◌-◌, ◌*◌, ◌^◌, ◌≤◌, ◌<◌
 use native.Mathlib.Omega.{arith}
 use native.Mathlib.Nat.{mul-le-mul_left, one-le-pow, zero-lt-suc}
 use mathlib.Core.Path.{◌≡◌, refl, sym, ap, ap₂, subst, ◌∙◌}
-use mathlib.Core.Bool.{Bool, true, false, ◌||◌, cond, true≢false}
-use mathlib.Core.List.{List, [], ◌∷◌}
+use mathlib.Core.Bool.{Bool, true, false, ◌||◌, ◌&&◌, not, cond, true≢false}
+use mathlib.Core.List.{List}
 use lib.Dec.{eqb, leb, ltb}
-use lib.IntN.{ℤ, nat_abs}
-use denote.Enum.Declared.{tag_of}
-use types.Run.{OneOf, miss}
+use lib.IntN.{ℤ, pos, negsuc, nat_abs}
+use Rattle.std.specs.Ordering.{int_cmp, is_le, is_lt}
+use Rattle.std.proofs.lemmas.Bool.Decides.{nat_tests}
 use lib.ListN.{drop, length-take}
 use borrow.Author.Tests.{ltb-false, leb-false, lt-ltb, le-ltb, eq-eqb, ne_eqb}
 use Rattle.base_digits.specs.signs.Signs.{is_minus}
 use Rattle.base_value.specs.declared.Decimal.{Decimal}
 use Rattle.base_value.specs.Sums.{nothing, exact_sum, sum_of}
-use Rattle.base_value.specs.contracts.Value.{the_type as value-type}
-use Rattle.base_value.specs.contracts.Reading.{the_type as reading-type}
 use Rattle.base_value.specs.declared.Value.{Value}
 use Rattle.base_value.specs.declared.Value.TheVariants as value
-use Rattle.base_value.specs.declared.Reading.{Reading}
-use Rattle.base_value.specs.declared.Reading.TheVariants.{Held, Malformed, OutOfRange}
+use Rattle.base_value.specs.declared.Unread.TheVariants.{Malformed, OutOfRange}
 use Rattle.value_text.specs.text.Texts.{text_end, text_of}
 use Rattle.value_number.proofs.shapes.Small.{Sized, number-sized}
 use Rattle.value_field.specs.declared.spelling.Spelling.TheVariants as spelled
@@ -29,6 +26,8 @@ use Rattle.survey_compass.specs.Directions.{unlisted, least_rank, nearest}
 use Rattle.survey_compass.specs.Corrections.{correction_of, correction_in, fixed_on, correction_at, nearest_on, summed_on, turn}
 use Rattle.survey_compass.specs.Headings.{most_places, bad_reading}
 use Rattle.survey_compass.proofs.Bounds.{AtMost, sum_right, sum-most, sum-places}
+use Rattle.std.specs.Prelude.{Result, Ok, Err}
+use Rattle.base_value.specs.declared.Unread.{Unread}
 
 -- a decimal of at most w digits
 abbrev pub Fits : ℕ → Decimal → Type 0
@@ -38,18 +37,18 @@ nothing-fits : (w : ℕ) → Fits w nothing
 unfolding nothing
 nothing-fits w = (omega arith, omega arith)
 
-read_fits : (w : ℕ) (r : Reading) → Sized w r → Fits w (correction_of r)
+read_fits : (w : ℕ) (r : Result Value Unread) → Sized w r → Fits w (correction_of r)
 unfolding correction_of
-read_fits w (Held (value.Decimal d)) k =
+read_fits w (Ok (value.Decimal d)) k =
     let q : 10 ^ w * 1 ≤ 10 ^ w * 10 ^ d.places = mul-le-mul_left (10 ^ w) (one-le-pow d.places 10 (zero-lt-suc 9)) in
     (omega (arith, q, k.0), k.1)
-read_fits w (Held value.Absent) k = nothing-fits w
-read_fits w (Held (value.Whole z)) k = nothing-fits w
-read_fits w (Held (value.Angle z)) k = nothing-fits w
-read_fits w (Held (value.Date d)) k = nothing-fits w
-read_fits w (Held (value.Text c)) k = nothing-fits w
-read_fits w Malformed k = nothing-fits w
-read_fits w OutOfRange k = nothing-fits w
+read_fits w (Ok value.Absent) k = nothing-fits w
+read_fits w (Ok (value.Whole z)) k = nothing-fits w
+read_fits w (Ok (value.Angle z)) k = nothing-fits w
+read_fits w (Ok (value.Date d)) k = nothing-fits w
+read_fits w (Ok (value.Text c)) k = nothing-fits w
+read_fits w (Err Malformed) k = nothing-fits w
+read_fits w (Err OutOfRange) k = nothing-fits w
 
 -- the correction in w columns
 columns_fit : (w first last : ℕ) (s : List ℕ) → last - (first - 1) ≤ w → Fits w (correction_in first last s)
@@ -87,22 +86,6 @@ raw_fits raw e =
     let b = either (ltb most_places raw.places) (leb (turn raw.places) (nat_abs raw.units)) a.1 in
     (omega (arith, leb-false (turn raw.places) (nat_abs raw.units) b.1), ltb-false most_places raw.places b.0)
 
--- what is read and is no decimal
-pub unheld : (r : Reading) → OneOf (1 ∷ 2 ∷ []) (tag_of reading-type r) → nothing ≡ correction_of r
-unfolding correction_of
-unheld (Held v) h = absurd (miss (1 ∷ 2 ∷ []) 0 tt h)
-unheld Malformed h = refl
-unheld OutOfRange h = refl
-
-pub no_decimal : (v : Value) → OneOf (0 ∷ 1 ∷ 3 ∷ 4 ∷ 5 ∷ []) (tag_of value-type v) → nothing ≡ correction_of (Held v)
-unfolding correction_of
-no_decimal value.Absent h = refl
-no_decimal (value.Whole z) h = refl
-no_decimal (value.Decimal d) h = absurd (miss (0 ∷ 1 ∷ 3 ∷ 4 ∷ 5 ∷ []) 2 tt h)
-no_decimal (value.Angle z) h = refl
-no_decimal (value.Date d) h = refl
-no_decimal (value.Text c) h = refl
-
 -- the correction for the nearest direction, by the least rank
 module _ (s : List ℕ) (asked least : ℕ) (is : least ≡ least_rank s asked) where
   pub none_used : least ≡ unlisted → nothing ≡ nearest_on s asked
@@ -132,6 +115,15 @@ summed s raw asked e f ef u eu x ex y ey =
     ∙ sum_right ab (nearest_on s asked) (360 + 10 ^ 6) (10 ^ 4) m d.0 (omega arith) (omega arith) p (omega (arith, d.1)) in
     (w, subst (λ z. z.places ≤ 11) (sym w) (sum-places ab (nearest_on s asked) p (omega (arith, d.1))))
 
+-- within a range of the machine's integers
+pub below_turn : (z : ℤ) (t : ℕ) → not (is_le (int_cmp (pos 0) z) && is_lt (int_cmp z (pos t))) ≡ (is_minus z || leb t (nat_abs z))
+below_turn (pos m) t = grind (arith, nat_tests)
+below_turn (negsuc m) t = refl
+
+pub up_to_turn : (z : ℤ) (t : ℕ) → not (is_le (int_cmp (pos 0) z) && is_le (int_cmp z (pos t))) ≡ (is_minus z || ltb t (nat_abs z))
+up_to_turn (pos m) t = grind (arith, nat_tests)
+up_to_turn (negsuc m) t = refl
+
 -- a raw reading is judged by its places first
 or_true : (a : Bool) → true ≡ (a || true)
 or_true true = refl
@@ -143,9 +135,6 @@ too_many_lem raw h =
     or_true (is_minus raw.units)
     ∙ ap (λ b. is_minus raw.units || (b || leb (turn raw.places) (nat_abs raw.units))) (sym (lt-ltb most_places raw.places h))
 
-pub judged : (raw : Decimal) → raw.places ≤ 11 → (y z : ℤ) → y ≡ raw.units → z ≡ raw.units → (m : Bool) → m ≡ is_minus y
-    → (t : ℕ) → t ≡ turn raw.places → (n : ℕ) → n ≡ nat_abs z → (m || leb t n) ≡ bad_reading raw
+pub judged : (raw : Decimal) → raw.places ≤ 11 → (is_minus raw.units || leb (turn raw.places) (nat_abs raw.units)) ≡ bad_reading raw
 unfolding bad_reading
-judged raw h y z ey ez m em t et n en =
-    ap₂ ◌||◌ (em ∙ ap is_minus ey) (ap₂ leb et (en ∙ ap nat_abs ez))
-    ∙ ap (λ b. is_minus raw.units || (b || leb (turn raw.places) (nat_abs raw.units))) (sym (le-ltb most_places raw.places h))
+judged raw h = rw (le-ltb most_places raw.places h)

@@ -22,11 +22,11 @@ use Rattle.value_field.specs.spelling.Reading.{reading_of}
 use Rattle.tie_rules.specs.Keys.{whole_key, whole_in}
 use Rattle.survey_compass.specs.Directions.{pairs, mark_of, mark_at, times_listed, is_again, listed_twice, apart, unlisted, rank_of, rank_at, least_to, least_rank, is_nearest, nearest}
 use Rattle.survey_compass.specs.Corrections.{correction_of, correction_in, fixed_on, correction_at, nearest_on, summed_on, turned}
-use Rattle.survey_compass.specs.declared.Heading.{Heading}
-use Rattle.survey_compass.specs.declared.Heading.TheVariants.{Is, Refused}
 use Rattle.survey_compass.specs.Headings.{off_circle, bad_reading, heading_on}
 use Rattle.survey_compass.specs.Pairs.{Reordered}
 use Rattle.survey_compass.proofs.Nearest.{mark_low, rank_some, rank_none, least_had, nearest_below}
+use Rattle.std.specs.Prelude.{Result, Ok, Err}
+use Rattle.base_refusal.specs.declared.Refusal.{Refusal}
 
 -- two directions, counted from 1, of one rank
 pub low : (m : ℕ) → (m ≡ 0 → ⊥) → m ≤ 360 → m - 1 < 360
@@ -176,14 +176,14 @@ module _ (s t : List ℕ) (w : Reordered s t) (asked : ℕ) where
 pub same_heading : (s t : List ℕ) → Reordered s t → (raw : Decimal) (direction : ℤ) → heading_on t raw direction ≡ heading_on s raw direction
 unfolding heading_on
 same_heading s t w raw direction =
-    ap (λ b. cond (off_circle direction || b) (Refused (refusal 25 0 0)) (rest t)) (twice s t w 0)
+    ap (λ b. cond (off_circle direction || b) (Err (refusal 25 0 0)) (rest t)) (twice s t w 0)
     ∙ go (off_circle direction) (listed_twice s) (twice s t w 0)
   where
-    rest : List ℕ → Heading
-    rest u = cond (bad_reading raw) (Refused (refusal 26 0 0)) (Is (turned (summed_on u raw (nat_abs direction % 360))))
+    rest : List ℕ → Result Decimal Refusal
+    rest u = cond (bad_reading raw) (Err (refusal 26 0 0)) (Ok (turned (summed_on u raw (nat_abs direction % 360))))
 
-    go : (a b : Bool) → listed_twice t ≡ b → cond (a || b) (Refused (refusal 25 0 0)) (rest t) ≡ cond (a || b) (Refused (refusal 25 0 0)) (rest s)
+    go : (a b : Bool) → listed_twice t ≡ b → cond (a || b) (Err (refusal 25 0 0)) (rest t) ≡ cond (a || b) (Err (refusal 25 0 0)) (rest s)
     go true b e = refl
     go false true e = refl
     go false false e =
-        ap (λ d. cond (bad_reading raw) (Refused (refusal 26 0 0)) (Is (turned d))) (summed s t w (nat_abs direction % 360) raw e)
+        ap (λ d. cond (bad_reading raw) (Err (refusal 26 0 0)) (Ok (turned d))) (summed s t w (nat_abs direction % 360) raw e)

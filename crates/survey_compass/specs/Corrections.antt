@@ -1,25 +1,26 @@
 -- The corrections on a card, their sum with a raw reading, and the sum taken into 0 to under 360 degrees.
-use Rattle.std.specs.Prelude.{ℕ, suc, ◌+◌, ◌-◌, ◌*◌, ◌%◌, ◌^◌, List, cond, eqb, ℤ, pos, negsuc}
+use Rattle.std.specs.Prelude.{ℕ, suc, ◌+◌, ◌-◌, ◌*◌, ◌%◌, ◌^◌, List, cond, eqb, ℤ, pos, negsuc, Result, Ok, Err}
 use Rattle.base_value.specs.Sums.{decimal, nothing, exact_sum}
 use Rattle.base_value.specs.declared.Decimal.{Decimal}
 use Rattle.base_value.specs.declared.Value.TheVariants as value
-use Rattle.base_value.specs.declared.Reading.{Reading}
-use Rattle.base_value.specs.declared.Reading.TheVariants.{Held, Malformed, OutOfRange}
+use Rattle.base_value.specs.declared.Unread.TheVariants.{Malformed, OutOfRange}
 use Rattle.value_field.specs.declared.spelling.Spelling.TheVariants as spelled
 use Rattle.value_field.specs.spelling.Reading.{reading_of}
 use Rattle.tie_rules.specs.Keys.{between}
 use Rattle.survey_compass.specs.Directions.{unlisted, least_rank, nearest}
+use Rattle.base_value.specs.declared.Unread.{Unread}
+use Rattle.base_value.specs.declared.Value.{Value}
 
 -- a correction that was read; one that is absent adds nothing
-unfoldable pub correction_of : Reading → Decimal
-correction_of (Held (value.Decimal d)) = d
-correction_of (Held value.Absent) = nothing
-correction_of (Held (value.Whole z)) = nothing
-correction_of (Held (value.Angle z)) = nothing
-correction_of (Held (value.Date d)) = nothing
-correction_of (Held (value.Text c)) = nothing
-correction_of Malformed = nothing
-correction_of OutOfRange = nothing
+unfoldable pub correction_of : Result Value Unread → Decimal
+correction_of (Ok (value.Decimal d)) = d
+correction_of (Ok value.Absent) = nothing
+correction_of (Ok (value.Whole z)) = nothing
+correction_of (Ok (value.Angle z)) = nothing
+correction_of (Ok (value.Date d)) = nothing
+correction_of (Ok (value.Text c)) = nothing
+correction_of (Err Malformed) = nothing
+correction_of (Err OutOfRange) = nothing
 
 -- the one in some columns of a card
 unfoldable pub correction_in : ℕ → ℕ → List ℕ → Decimal

@@ -1,13 +1,12 @@
 // The corrections on a card, their exact sum with a raw reading, and the sum taken into 0 to under 360 degrees.
 ghost use Rattle.std.specs.Prelude.{◌≡◌, false, ◌≤◌, ◌<◌, length};
 ghost use Rattle.survey_compass.specs.Directions.{pairs};
-ghost use Rattle.survey_compass.specs.Corrections.{correction_of, correction_in, correction_at, nearest_on, turn, within, summed_on, turned};
+ghost use Rattle.survey_compass.specs.Corrections.{correction_of, correction_in, correction_at, nearest_on, turn, summed_on, turned};
 ghost use Rattle.survey_compass.specs.Headings.{bad_reading};
 
 use crate::directions;
 use crate::directions::{STEP, UNLISTED};
-use base_digits::signs;
-use base_value::{Decimal, Reading, Value};
+use base_value::{Decimal, Unread, Value};
 use card_field::needing;
 use value_field::spelling;
 use value_field::spelling::Spelling;
@@ -22,19 +21,18 @@ const FIRST: usize = 24;
 const LAST: usize = 27;
 
 // A correction that was read; one that is absent adds nothing.
-fn correction_of(reading: Reading) -> Decimal
+#[tactic(auto, unfolding(crate::specs::Corrections::correction_of, base_value::specs::Sums::nothing))]
+fn correction_of(reading: Result<Value, Unread>) -> Decimal
     ensures { result ≡ correction_of reading }
 {
-    let Reading::Held(value) = reading else {
-        return Decimal::ZERO;
-    };
-    if let Value::Decimal(d) = value {
-        return d;
+    match reading {
+        Ok(Value::Decimal(d)) => d,
+        _ => Decimal::ZERO,
     }
-    Decimal::ZERO
 }
 
 // The correction in some columns.
+#[tactic(auto, unfolding(crate::specs::Corrections::correction_in, tie_rules::specs::Keys::between))]
 fn correction_in(card: &[u8], first: usize, last: usize) -> Decimal
     requires { (1 ≤ first) × (first ≤ last) × (last ≤ length card.now) }
     ensures { result ≡ correction_in first last card.now }
@@ -44,6 +42,7 @@ fn correction_in(card: &[u8], first: usize, last: usize) -> Decimal
 }
 
 // The correction of a pair.
+#[tactic(auto, unfolding(crate::specs::Corrections::correction_at))]
 fn correction_at(card: &[u8], pair: usize) -> Decimal
     requires { (length card.now ≡ 80) × (pair < pairs) }
     ensures { result ≡ correction_at card.now pair }
@@ -68,25 +67,7 @@ pub fn whole_turn(places: usize) -> u64
     requires { places ≤ 11 }
     ensures { result ≡ turn places }
 {
-    let mut units = 360;
-    let mut i = 0;
-    while i < places {
-        units *= 10;
-        i += 1;
-    }
-    units
-}
-
-// Units taken into 0 to under so many.
-fn into(whole: u64, units: i64) -> u64
-    requires { 0 < whole }
-    ensures { (result ≡ within whole units) × (result < whole) }
-{
-    let size = signs::magnitude(units);
-    if signs::below_zero(units) {
-        return whole - 1 - (size - 1) % whole;
-    }
-    size % whole
+    360 * 10u64.pow(places as u32)
 }
 
 // A sum taken into 0 to under 360 degrees.
@@ -94,9 +75,8 @@ fn into_circle(sum: Decimal) -> Decimal
     requires { sum.places ≤ 11 }
     ensures { result ≡ turned sum }
 {
-    let places = sum.places;
-    let rest = into(whole_turn(places), sum.units);
-    Decimal::new(signs::signed(false, rest), places)
+    let turn = whole_turn(sum.places) as i64;
+    Decimal::new(sum.units.rem_euclid(turn), sum.places)
 }
 
 // A raw reading with the fixed correction and the one for the nearest listed direction.

@@ -14,12 +14,13 @@ const FIRST: usize = 21;
 
 const LAST: usize = 23;
 
-const CIRCLE: u64 = 360;
+// The directions of a circle.
+pub const CIRCLE: u64 = 360;
 
-// The rank of a pair that lists no direction: behind all others.
+// The rank of a pair that lists no direction: behind all others, so that the least is found by one fold.
 pub const UNLISTED: u64 = CIRCLE * CIRCLE;
 
-// The direction of a pair, 360 as 0, counted from 1; 0 where there is none.
+// The direction of a pair, 360 as 0, counted from 1; 0 where there is none. No Option: specs/ counts the marks so.
 fn mark_at(card: &[u8], pair: usize) -> u64
     requires { pair < pairs }
     ensures { (result ≡ mark_at card.now pair) × (result ≤ 360) }
@@ -35,58 +36,41 @@ fn mark_at(card: &[u8], pair: usize) -> u64
 fn times_listed(card: &[u8], mark: u64) -> usize
     ensures { result ≡ times_listed card.now mark }
 {
-    let mut times = 0;
-    let mut pair = 0;
-    while pair < PAIRS {
-        times += base_lists::bit_of(mark_at(card, pair) == mark);
-        pair += 1;
-    }
-    times
+    (0..PAIRS)
+        .filter(|pair| mark_at(card, *pair) == mark)
+        .count()
 }
 
 // Whether a pair has a direction that is listed more than once.
+#[tactic(auto, using(std::proofs::lemmas::Bool::Decides::nat_tests), unfolding(crate::specs::Directions::is_again))]
 fn is_again(card: &[u8], pair: usize) -> bool
     requires { pair < pairs }
     ensures { result ≡ is_again card.now pair }
 {
     let mark = mark_at(card, pair);
-    (mark != 0) & (1 < times_listed(card, mark))
+    mark != 0 && 1 < times_listed(card, mark)
 }
 
 // Whether a direction is listed more than once.
 pub fn listed_twice(card: &[u8]) -> bool
     ensures { result ≡ listed_twice card.now }
 {
-    let mut again = 0;
-    let mut pair = 0;
-    while pair < PAIRS {
-        again += base_lists::bit_of(is_again(card, pair));
-        pair += 1;
-    }
-    0 < again
-}
-
-// The smaller of two.
-fn smaller(a: u64, b: u64) -> u64
-    ensures { result ≡ min a b }
-{
-    if a < b {
-        return a;
-    }
-    b
+    (0..PAIRS).any(|pair| is_again(card, pair))
 }
 
 // How far two directions lie apart.
+#[tactic(auto, unfolding(crate::specs::Directions::apart))]
 fn apart_by(a: u64, b: u64) -> u64
     requires { (a < 360) × (b < 360) }
     ensures { (result ≡ apart a b) × (result < 360) }
 {
     let on = (a + CIRCLE - b) % CIRCLE;
     let back = (b + CIRCLE - a) % CIRCLE;
-    smaller(on, back)
+    on.min(back)
 }
 
 // The rank of a direction, counted from 1, by the one that is asked.
+#[tactic(auto, using(std::proofs::lemmas::Bool::Decides::nat_tests), unfolding(crate::specs::Directions::rank_of))]
 fn rank_of(asked: u64, mark: u64) -> u64
     requires { (asked < 360) × (mark ≤ 360) }
     ensures { result ≡ rank_of asked mark }
@@ -98,6 +82,7 @@ fn rank_of(asked: u64, mark: u64) -> u64
 }
 
 // The rank of a pair.
+#[tactic(auto, unfolding(crate::specs::Directions::rank_at))]
 fn rank_at(card: &[u8], asked: u64, pair: usize) -> u64
     requires { (asked < 360) × (pair < pairs) }
     ensures { result ≡ rank_at card.now asked pair }
@@ -110,13 +95,9 @@ pub fn least_rank(card: &[u8], asked: u64) -> u64
     requires { asked < 360 }
     ensures { result ≡ least_rank card.now asked }
 {
-    let mut least = UNLISTED;
-    let mut pair = 0;
-    while pair < PAIRS {
-        least = smaller(least, rank_at(card, asked, pair));
-        pair += 1;
-    }
-    least
+    (0..PAIRS)
+        .map(|pair| rank_at(card, asked, pair))
+        .fold(UNLISTED, u64::min)
 }
 
 // The first pair that has it.
@@ -124,12 +105,7 @@ pub fn nearest_to(card: &[u8], asked: u64, least: u64) -> usize
     requires { (asked < 360) × (least ≡ least_rank card.now asked) }
     ensures { result ≡ nearest card.now asked }
 {
-    let mut pair = 0;
-    while pair < PAIRS {
-        if rank_at(card, asked, pair) == least {
-            return pair;
-        }
-        pair += 1;
-    }
-    pair
+    (0..PAIRS)
+        .position(|pair| rank_at(card, asked, pair) == least)
+        .unwrap_or(PAIRS)
 }

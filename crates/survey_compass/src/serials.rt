@@ -20,25 +20,18 @@ fn is_for(serial: &[u8], card: &[u8]) -> bool
     requires { length card.now ≡ 80 }
     ensures { result ≡ is_for serial.now card.now }
 {
-    if forms::layout_of(card) != CORRECTIONS {
-        return false;
-    }
-    base_lists::same(text::stretch(needing::columns(card, FIRST, LAST)), serial)
+    forms::layout_of(card) == CORRECTIONS
+        && text::stretch(needing::columns(card, FIRST, LAST)) == serial
 }
 
 // How many cards have them.
 pub fn cards_for(header: &[u8], serial: &[u8]) -> usize
     ensures { result ≡ cards_for header.now serial.now }
 {
-    let count = header.len() / CARD;
-    let mut found = 0;
-    let mut place = 0;
-    while place < count {
-        let from = place * CARD;
-        found += base_lists::bit_of(is_for(serial, &header[from..from + CARD]));
-        place += 1;
-    }
-    found
+    header
+        .chunks_exact(CARD)
+        .filter(|card| is_for(serial, card))
+        .count()
 }
 
 // The place of the first of them, from 0; behind all cards where there is none.
@@ -46,14 +39,8 @@ pub fn place_for(header: &[u8], serial: &[u8]) -> usize
     ensures place { result ≡ place_for header.now serial.now }
     ensures within { result ≤ cards_in header.now }
 {
-    let count = header.len() / CARD;
-    let mut place = 0;
-    while place < count {
-        let from = place * CARD;
-        if is_for(serial, &header[from..from + CARD]) {
-            return place;
-        }
-        place += 1;
-    }
-    place
+    header
+        .chunks_exact(CARD)
+        .position(|card| is_for(serial, card))
+        .unwrap_or(header.len() / CARD)
 }

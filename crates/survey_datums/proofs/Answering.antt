@@ -1,38 +1,40 @@
 -- The answer put together: what the struct holds in each case.
-use Prim.Native.Nat.{ℕ, ◌-◌, ◌<◌}
+use Prim.Native.Nat.{ℕ, ◌-◌, ◌≤◌, ◌<◌}
 use native.Mathlib.Omega.{arith}
 use mathlib.Core.Path.{◌≡◌, sym, ap, ap₂, ◌∙◌}
 use mathlib.Core.Bool.{Bool, true, false, cond}
 use mathlib.Core.List.{List, map}
 use lib.Dec.{ltb}
-use lib.ListN.{get_or}
-use borrow.Author.Tests.{le-leb, lt-leb}
+use lib.ListN.{length, get_or}
+use borrow.Author.Tests.{le-leb, lt-leb, lt-ltb, le-ltb}
+use Rattle.std.specs.Bool.{MatchBool}
+use Rattle.std.specs.List.{AllWithin, HoldsAt}
+use Rattle.base_lists.specs.Count.{first}
 use Rattle.base_lists.specs.Parts.{up_to}
-use Rattle.base_lists.proofs.Finding.{first_same}
+use Rattle.base_lists.proofs.Finding.{first_same, first-least, first-none}
 use Rattle.base_refusal.specs.declared.Refusal.{Refusal}
-use Rattle.base_refusal.specs.Refusals.{refusal}
-use Rattle.header_check.specs.declared.Checked.TheVariants as checked
+use Rattle.base_refusal.specs.Refusals.{refusal, no_refusal}
 use Rattle.header_check.specs.Refusing.{refusal_of}
 use Rattle.survey_datums.specs.routing.Chains.{distance}
 use Rattle.survey_datums.specs.routing.Tables.{entry, distances, cards_of}
 use Rattle.survey_datums.proofs.routing.Filling.{at_listed, listed_same}
-use Rattle.survey_datums.specs.declared.Answer.TheVariants.{Told}
 use Rattle.survey_datums.specs.declared.Routes.{Routes}
 use Rattle.survey_datums.specs.declared.Way.{Way}
 use Rattle.survey_datums.specs.declared.Way.TheVariants.{Undefined}
 use Rattle.survey_datums.specs.Datums.{times_defined, is_defined, some_twice, joining_table}
 use Rattle.survey_datums.specs.packed.Ends.{twice_in, told_by}
 use Rattle.survey_datums.specs.Answer.{shifts_told, told_of, refused_with, routes_for, routes_of, way_for, way_of}
+use Rattle.std.specs.Prelude.{Err}
 
 abbrev made : List ℕ → List ℕ → Routes
-made s c = record { answer = Told; shifts = s; cards = c }
+made s c = record { answer = no_refusal; shifts = s; cards = c }
 
 -- a header that was refused
-pub told-refused : (h : List ℕ) (r : Refusal) → refusal_of h ≡ checked.Refused r → (x : Routes) → x ≡ refused_with r → x ≡ routes_of h
+pub told-refused : (h : List ℕ) (r : Refusal) → refusal_of h ≡ Err r → (x : Routes) → x ≡ refused_with r → x ≡ routes_of h
 unfolding routes_of routes_for
 told-refused h r e x q = rw e q
 
-module _ (h : List ℕ) (accepted : refusal_of h ≡ checked.Accepted) (times : List ℕ) (known : times ≡ map (times_defined h) (up_to 9)) where
+module _ (h : List ℕ) (accepted : refusal_of h ≡ no_refusal) (times : List ℕ) (known : times ≡ map (times_defined h) (up_to 9)) where
   times_at_lem : (a : ℕ) → a < 9 → get_or times a 0 ≡ times_defined h a
   times_at_lem a l = ap (λ t. get_or t a 0) known ∙ at_listed (times_defined h) 9 a 0 l
 
@@ -60,6 +62,20 @@ module _ (h : List ℕ) (accepted : refusal_of h ≡ checked.Accepted) (times : 
       (by ∙ listed_same (λ a. cond (ltb 0 (get_or times a 0)) (get_or shifts a 0) 10) (shifts_told h) 9 (λ a l.
       rw (times_at_lem a l, far, is, at_listed (distance (entry (joining_table h))) 9 a 0 l)))
       (which ∙ ap cards_of is))
+
+-- what a search for a number above 1 finds
+pub some_often : (times : List ℕ) → length times ≡ 9 → (r : Bool)
+    → MatchBool r ((k : ℕ) × (k < length times) × HoldsAt (λ n. 1 < n) times k)
+    (AllWithin (λ n. n ≤ 1) times 0 (length times))
+    → r ≡ twice_in times
+unfolding twice_in
+some_often times nine true h =
+    let l = first-least (λ a. ltb 1 (get_or times a 0)) 9 h.0 (lt-ltb 1 (get_or times h.0 0) (h.2 0)) in
+    sym (lt-ltb (first (λ a. ltb 1 (get_or times a 0)) 9) 9 (omega (arith, h.1, nine, l)))
+some_often times nine false h =
+    let e = first-none (λ a. ltb 1 (get_or times a 0)) 9
+    (λ k l. le-ltb 1 (get_or times k 0) (h k 0 (omega arith) (omega (arith, nine)))) in
+    sym (le-ltb (first (λ a. ltb 1 (get_or times a 0)) 9) 9 (omega (arith, e)))
 
 -- what is told of one datum
 module _ (r : Routes) (d : ℕ) where

@@ -1,36 +1,25 @@
 -- The numbers of all routes in a lent list, as many whole datums as fit; and the answer beside them.
-use Prim.Native.Nat.{ℕ, ◌+◌, ◌*◌, ◌/◌, ◌≤◌, min}
+use Prim.Native.Nat.{ℕ, suc, ◌+◌, ◌*◌, ◌/◌, min}
 use native.Mathlib.Omega.{arith}
 use native.Mathlib.Decide.{dec_lt}
-use mathlib.Core.Path.{◌≡◌, refl, sym, ap, ap₂, ◌∙◌}
-use mathlib.Core.List.{List, ◌++◌, map}
-use lib.ListN.{length, set, take, drop, take-append-drop}
-use lib.Seq.{length-take-le, get_or-take, ext_get_or, drop-set-lt, drop-drop}
+use mathlib.Core.Path.{◌≡◌, refl, sym, ap, ◌∙◌}
+use mathlib.Core.Bool.{Bool, true, false}
+use mathlib.Core.List.{List, [], ◌∷◌, ◌++◌, map}
+use lib.Dec.{ltb}
+use Rattle.std.specs.List.{filter}
+use Rattle.base_lists.specs.Count.{count}
+use Rattle.base_lists.proofs.Counting.{count_same, count_split}
+use lib.ListN.{length, get_or, take, drop}
 use borrow.Author.Tests.{le-leb, lt-leb}
 use Rattle.base_lists.specs.Laid.{fitting, laid}
 use Rattle.base_lists.specs.Parts.{up_to}
 use Rattle.base_refusal.specs.declared.Refusal.{Refusal}
-use Rattle.survey_datums.proofs.routing.Filling.{length-listed, at_listed}
-use Rattle.survey_datums.specs.declared.Answer.TheVariants as answer
 use Rattle.survey_datums.specs.declared.Routes.{Routes}
-use Rattle.survey_datums.specs.declared.listing.Listed.TheVariants.{Routed, Refused}
 use Rattle.survey_datums.specs.Answer.{routes_of}
 use Rattle.survey_datums.specs.Listing.{number_at, numbers_of, routed, listed_by, listed_of, list_by, list_for}
 use Rattle.survey_datums.specs.packed.Room.{room_in}
-
-pub room_small : (n : ℕ) → room_in n ≤ 81
-unfolding room_in
-room_small n = elim (dec_lt n 81) [
-  | yes l ↦ rw (lt-leb 81 n l) (omega arith)
-  | no l ↦ rw (le-leb 81 n (omega arith)) (omega arith)
-]
-
-pub room_within : (n : ℕ) → room_in n ≤ n
-unfolding room_in
-room_within n = elim (dec_lt n 81) [
-  | yes l ↦ rw (lt-leb 81 n l) (omega arith)
-  | no l ↦ rw (le-leb 81 n (omega arith)) (omega arith)
-]
+use Rattle.std.specs.Prelude.{Ok, Err}
+use Rattle.base_refusal.specs.Refusals.{no_refusal}
 
 room-is : (n : ℕ) → room_in n ≡ min 81 (n / 9 * 9)
 unfolding room_in
@@ -39,36 +28,56 @@ room-is n = elim (dec_lt n 81) [
   | no l ↦ rw (le-leb 81 n (omega arith)) (omega arith)
 ]
 
-module _ (f : ℕ → ℕ) where
-  front : (n k : ℕ) → k ≤ n → take k (map f (up_to n)) ≡ map f (up_to k)
-  front n k h =
-      let w = map f (up_to n) in
-      let long = length-take-le k w (omega (arith, length-listed f n)) in
-      ext_get_or 0 (take k w) (map f (up_to k)) (long ∙ sym (length-listed f k))
-      (λ i l. get_or-take k w i 0 (omega (arith, long)) ∙ at_listed f n i 0 (omega (arith, long)) ∙ sym (at_listed f k i 0 (omega (arith, long))))
+-- all that fit
+pub all_laid : (w l : List ℕ) (i : ℕ) → length w ≡ 81 → i ≡ room_in (length l) → take i w ++ drop i l ≡ laid 9 l w
+unfolding laid fitting
+all_laid w l i long e =
+    let k : min (length w) (length l / 9 * 9) ≡ i = ap (λ n. min n (length l / 9 * 9)) long ∙ sym (room-is (length l))
+    ∙ sym e in
+    rw k
 
-  -- one number more leaves what lies behind as it was
-  pub behind : (l l₀ : List ℕ) (i x : ℕ) → drop i l ≡ drop i l₀ → drop (i + 1) (set l i x) ≡ drop (i + 1) l₀
-  behind l l₀ i x e =
-      drop-set-lt (i + 1) l i x (omega arith) ∙ sym (drop-drop 1 i l) ∙ ap (drop 1) e ∙ drop-drop 1 i l₀
+-- the elements of a list that pass, counted by their places
+passing : (p : ℕ → Bool) (xs : List ℕ) → length (filter p xs) ≡ count (λ i. p (get_or xs i 0)) (length xs)
+unfolding count
+passing p [] = refl
+passing p (x ∷ xs) = one (p x) refl (passing p xs)
+  where
+    q : ℕ → Bool
+    q i = p (get_or (x ∷ xs) i 0)
 
-  -- all that fit
-  pub all_laid : (l l₀ : List ℕ) (i : ℕ) → i ≡ room_in (length l₀) → take i l ≡ map f (up_to i) → drop i l ≡ drop i l₀
-      → l ≡ laid 9 l₀ (map f (up_to 81))
-  unfolding laid fitting
-  all_laid l l₀ i e t d =
-      let k : min (length (map f (up_to 81))) (length l₀ / 9 * 9) ≡ i = ap (λ n. min n (length l₀ / 9 * 9)) (length-listed f 81) ∙ sym (room-is (length l₀)) ∙ sym e in
-      rw k (sym (take-append-drop i l)
-      ∙ ap₂ (λ a b. a ++ b) (t ∙ sym (front 81 i (omega (arith, e, room_small (length l₀))))) d)
+    n : ℕ
+    n = length xs
+
+    longer : count q (1 + n) ≡ count q (suc n)
+    longer = let e : 1 + n ≡ suc n = omega arith in ap (count q) e
+
+    rest : length (filter p xs) ≡ count (λ i. p (get_or xs i 0)) n → count (λ i. q (1 + i)) n ≡ length (filter p xs)
+    rest e = count_same (λ i. q (1 + i)) (λ i. p (get_or xs i 0)) n
+        (λ i l. let e : 1 + i ≡ suc i = omega arith in rw e) ∙ sym e
+
+    one : (b : Bool) → p x ≡ b → length (filter p xs) ≡ count (λ i. p (get_or xs i 0)) n
+        → length (filter p (x ∷ xs)) ≡ count q (suc n)
+    one true e ih =
+        let s : count q 1 ≡ 1 = rw e in
+        let l : length (filter p (x ∷ xs)) ≡ suc (length (filter p xs)) = rw e in
+        omega (arith, s, l, rest ih, count_split q 1 n, longer)
+    one false e ih =
+        let s : count q 1 ≡ 0 = rw e in
+        let l : length (filter p (x ∷ xs)) ≡ length (filter p xs) = rw e in
+        omega (arith, s, l, rest ih, count_split q 1 n, longer)
+
+pub routed_passing : (shifts : List ℕ) → length shifts ≡ 9 → length (filter (λ s. ltb s 9) shifts) ≡ routed shifts
+unfolding routed
+routed_passing shifts nine = passing (λ s. ltb s 9) shifts ∙ ap (count (λ a. ltb (get_or shifts a 0) 9)) nine
 
 -- the answer beside the list
 module _ (h l : List ℕ) (r : Routes) (is : r ≡ routes_of h) where
-  pub told-listed : r.answer ≡ answer.Told → (n : ℕ) → n ≡ routed r.shifts
+  pub told-listed : r.answer ≡ no_refusal → (n : ℕ) → n ≡ routed r.shifts
       → (w : List ℕ) → w ≡ laid 9 l (map (number_at r.shifts r.cards) (up_to 81))
-      → (Routed n ≡ listed_of (routes_of h)) × (w ≡ list_for (routes_of h) l)
+      → (Ok n ≡ listed_of (routes_of h)) × (w ≡ list_for (routes_of h) l)
   unfolding listed_of listed_by list_for list_by numbers_of
-  told-listed a n e w q = rw (← is, a) (ap Routed e, q)
+  told-listed a n e w q = rw (← is, a) (ap Ok e, q)
 
-  pub refused-listed : (x : Refusal) → r.answer ≡ answer.Refused x → (Refused x ≡ listed_of (routes_of h)) × (l ≡ list_for (routes_of h) l)
+  pub refused-listed : (x : Refusal) → r.answer ≡ Err x → (Err x ≡ listed_of (routes_of h)) × (l ≡ list_for (routes_of h) l)
   unfolding listed_of listed_by list_for list_by
   refused-listed x a = rw (← is, a) (refl, refl)

@@ -1,40 +1,25 @@
 -- The lowest joining cards, card by card: what one card more changes in a row of the table.
-use Prim.Native.Nat.{ℕ, ◌+◌, ◌-◌, ◌≤◌, ◌<◌}
+use Prim.Native.Nat.{ℕ, ◌+◌, ◌-◌, ◌*◌, ◌/◌, ◌≤◌, ◌<◌}
 use native.Mathlib.Omega.{arith}
 use native.Mathlib.Decide.{dec_lt, ℕ_discrete}
 use mathlib.Core.Path.{◌≡◌, refl, sym, ap, ◌∙◌}
 use mathlib.Core.Bool.{Bool, true, false, cond, not, ◌&&◌, ◌||◌}
-use mathlib.Core.List.{List, map}
+use mathlib.Core.List.{List, ◌++◌, map}
 use lib.Dec.{eqb, ltb}
-use lib.ListN.{length, get_or, set, replicate}
-use lib.Seq.{ext_get_or, get_or-set_same, get_or-set_other}
+use lib.ListN.{length, get_or, set, drop, replicate, length-append, length-drop}
+use lib.Seq.{take_at, drop_at, drop-drop, ext_get_or, get_or-set_same, get_or-set_other}
 use borrow.Author.Tests.{eq-eqb, ne_eqb, lt-ltb, le-ltb}
+use Rattle.std.proofs.Math.Bool.{or-false, and-true, and-false, and_comm}
+use Rattle.std.specs.Option.{unwrap_or}
+use Rattle.std.specs.Prelude.{Option, Some, None}
 use Rattle.base_lists.specs.Count.{first, first_from}
-use Rattle.base_lists.specs.Parts.{up_to}
+use Rattle.base_lists.specs.Parts.{part, up_to}
 use Rattle.base_lists.proofs.Finding.{first_le, first_passes, first_below, first_unique, first-none}
 use Rattle.format_layout.specs.Names.{H0120}
 use Rattle.header_check.specs.forms.Cards.{card_at, cards_in, layout_of}
 use Rattle.survey_datums.proofs.routing.Filling.{length-listed, at_listed, listed_same}
 use Rattle.survey_datums.specs.Datums.{times_defined, is_defined, number_in, is_shift, joins, first_number, joining_to, joining}
 use Rattle.survey_datums.specs.packed.Ends.{place_of, other_of, far_end, notable, noted}
-
-or_false : (t : Bool) → (t || false) ≡ t
-or_false true = refl
-or_false false = refl
-
-and_true : (t : Bool) → (t && true) ≡ t
-and_true true = refl
-and_true false = refl
-
-and_false : (t : Bool) → (t && false) ≡ false
-and_false true = refl
-and_false false = refl
-
-turned : (s t : Bool) → (s && (true && t)) ≡ (true && (t && s))
-turned true true = refl
-turned true false = refl
-turned false true = refl
-turned false false = refl
 
 -- a number is a datum's
 is-place : (n b : ℕ) → b < 9 → eqb (place_of n) b ≡ eqb n (b + 1)
@@ -70,10 +55,10 @@ far s a b l other = go (eqb (layout_of s) H0120)
     go true = elim (ℕ_discrete x (a + 1)) [
       | yes e ↦
           let differ : (x ≡ b + 1 → ⊥) = λ q. other (omega arith) in
-          rw (eq-eqb x (a + 1) e, ne_eqb x (b + 1) differ) (is-place y b l ∙ sym (or_false (eqb y (b + 1))))
+          rw (eq-eqb x (a + 1) e, ne_eqb x (b + 1) differ) (is-place y b l ∙ sym (or-false (eqb y (b + 1))))
       | no e ↦ elim (ℕ_discrete y (a + 1)) [
-        | yes q ↦ rw (ne_eqb x (a + 1) e, eq-eqb y (a + 1) q) (is-place x b l ∙ sym (and_true (eqb x (b + 1))))
-        | no q ↦ rw (ne_eqb x (a + 1) e, ne_eqb y (a + 1) q) (nine ∙ sym (and_false (eqb x (b + 1))))
+        | yes q ↦ rw (ne_eqb x (a + 1) e, eq-eqb y (a + 1) q) (is-place x b l ∙ sym (and-true (eqb x (b + 1))))
+        | no q ↦ rw (ne_eqb x (a + 1) e, ne_eqb y (a + 1) q) (nine ∙ sym (and-false (eqb x (b + 1))))
       ]
     ]
 
@@ -84,7 +69,14 @@ number-next p n = elim (dec_lt (first p n) n) [
   | yes l ↦
       let e : first p (n + 1) ≡ first p n = first_unique p (n + 1) (first p n) (omega arith) (first_passes p n l) (first_below p n) in
       let z : (first p n + 1 ≡ 0 → ⊥) = λ q. omega arith in
-      rw (e, lt-ltb (first p n) (n + 1) (omega arith), lt-ltb (first p n) n l, ne_eqb (first p n + 1) 0 z, and_false (p n))
+      rw (
+        e,
+        lt-ltb (first p n) (n + 1) (omega arith),
+        lt-ltb (first p n) n l,
+        ne_eqb (first p n + 1) 0 z,
+        and-false
+            (p n),
+      )
   | no l ↦
       let all : first p n ≡ n = omega (arith, first_le p n) in
       rw (le-ltb (first p n) n (omega arith)) (here all (p n) refl)
@@ -111,29 +103,71 @@ none_yet h a b = go (eqb a b)
     go true = refl
     go false = refl
 
--- a datum that is not defined is joined to none
-pub none_ever : (h : List ℕ) (a : ℕ) → times_defined h a ≡ 0 → replicate 9 0 ≡ map (joining h a) (up_to 9)
-unfolding up_to joining joining_to first_number joins is_defined
-none_ever h a z = listed_same (λ i. 0) (joining h a) 9 (λ b l. none b)
-  where
-    dead : (b j : ℕ) → joins h a b j ≡ false
-    dead b j = rw z
+-- the cards of a header from its front: what is left once n of them were taken
+pub record Reading (h rest : List ℕ) (size n : ℕ) : Type 0 where
+  pub eighty : size ≡ 80
+  pub behind : rest ≡ drop (n * 80) h
+  pub upto : n ≤ length h / 80
 
-    nothing : (x : Bool) → ◌≡◌ {A = ℕ} 0 (cond x 0 0)
-    nothing true = refl
-    nothing false = refl
+module _ (h rest : List ℕ) (size n : ℕ) where
+  pub reading_begins : rest ≡ h → size ≡ 80 → n ≡ 0 → Reading h rest size n
+  reading_begins e s z = record { eighty = s; behind = rw z e; upto = omega (arith, z) }
 
-    none : (b : ℕ) → 0 ≡ joining h a b
-    none b =
-        let q : first (joins h a b) (cards_in h) ≡ cards_in h = first-none (joins h a b) (cards_in h) (λ j k. dead b j) in
-        rw (q, le-ltb (cards_in h) (cards_in h) (omega arith)) (nothing (eqb a b))
+  pub reading_more : Reading h rest size n → (x e : List ℕ) → rest ≡ x ++ e → length x ≡ size
+      → (x ≡ card_at h n) × (n < length h / 80) × Reading h e size (n + 1)
+  unfolding card_at part
+  reading_more r x e is long =
+      let l : length x ≡ 80 = long ∙ r.eighty in
+      let q : drop (n * 80) h ≡ x ++ e = sym r.behind ∙ is in
+      let m : 80 * n ≡ n * 80 = omega arith in
+      let f : n * 80 + 80 ≡ (n + 1) * 80 = omega arith in
+      let all = ap length q ∙ length-append x e in
+      let few : n < length h / 80 = omega (arith, length-drop (n * 80) h, all, l) in (
+        rw (m, q) (sym (take_at x e 80 l)),
+        few,
+        record {
+          eighty = r.eighty;
+          behind = sym (drop_at x e 80 l) ∙ ap (drop 80) (sym q) ∙ drop-drop 80 (n * 80) h ∙ ap (λ k. drop k h) f;
+          upto = omega (arith, few);
+        },
+      )
 
-module _ (h times : List ℕ) (known : times ≡ map (times_defined h) (up_to 9)) (a : ℕ) (some : times_defined h a ≡ 0 → ⊥) where
+  pub reading_over : Reading h rest size n → length rest < size → n ≡ length h / 80
+  reading_over r short =
+      let l = ap length r.behind ∙ length-drop (n * 80) h in
+      omega (arith, l, short, r.eighty, r.upto)
+
+module _ (h times : List ℕ) (known : times ≡ map (times_defined h) (up_to 9)) (a : ℕ) (there : a < 9) where
+  times_at : (b : ℕ) → b < 9 → get_or times b 0 ≡ times_defined h b
+  times_at b l = ap (λ t. get_or t b 0) known ∙ at_listed (times_defined h) 9 b 0 l
+
+  -- a datum that is not defined is joined to none
+  pub none_ever : get_or times a 0 ≡ 0 → replicate 9 0 ≡ map (joining h a) (up_to 9)
+  unfolding up_to joining joining_to first_number joins is_defined
+  none_ever zero = listed_same (λ i. 0) (joining h a) 9 (λ b l. none b)
+    where
+      z : times_defined h a ≡ 0
+      z = sym (times_at a there) ∙ zero
+
+      dead : (b j : ℕ) → joins h a b j ≡ false
+      dead b j = rw z
+
+      nothing : (x : Bool) → ◌≡◌ {A = ℕ} 0 (cond x 0 0)
+      nothing true = refl
+      nothing false = refl
+
+      none : (b : ℕ) → 0 ≡ joining h a b
+      none b =
+          let q : first (joins h a b) (cards_in h) ≡ cards_in h = first-none (joins h a b) (cards_in h)
+          (λ j k. dead b j) in
+          rw (q, le-ltb (cards_in h) (cards_in h) (omega arith)) (nothing (eqb a b))
+
   -- one card more
-  pub card_more : (n end : ℕ) → end ≡ far_end (card_at h n) a → (b : ℕ) → b < 9 → (old : ℕ) → old ≡ joining_to h a b n
+  card_more : (get_or times a 0 ≡ 0 → ⊥) → (n end : ℕ) → end ≡ far_end (card_at h n) a → (b : ℕ) → b < 9 → (old : ℕ)
+      → old ≡ joining_to h a b n
       → noted old (notable times a end b) (n + 1) ≡ joining_to h a b (n + 1)
   unfolding joining_to notable noted joins is_defined
-  card_more n end e b l old q = elim (ℕ_discrete a b) [
+  card_more some n end e b l old q = elim (ℕ_discrete a b) [
     | yes same ↦ rw (q, eq-eqb a b same) (stays (eqb end b))
     | no other ↦
         rw (q, ne_eqb a b other)
@@ -141,21 +175,18 @@ module _ (h times : List ℕ) (known : times ≡ map (times_defined h) (up_to 9)
   ]
     where
       stays : (x : Bool) → noted 0 (x && (false && ltb 0 (get_or times b 0))) (n + 1) ≡ 0
-      stays x = rw (and_false x)
-
-      times_at_lem : get_or times b 0 ≡ times_defined h b
-      times_at_lem = ap (λ t. get_or t b 0) known ∙ at_listed (times_defined h) 9 b 0 l
+      stays x = rw (and-false x)
 
       same_test : (a ≡ b → ⊥) → (eqb end b && (true && ltb 0 (get_or times b 0))) ≡ joins h a b n
       same_test other =
-          rw (times_at_lem, e, far (card_at h n) a b l other, lt-ltb 0 (times_defined h a) (omega (arith, some)))
-          (turned (is_shift (card_at h n) a b) (ltb 0 (times_defined h b)))
-
-  -- a whole row
-  pub row_told : (row : List ℕ) → length row ≡ 9 → ((b : ℕ) → b < 9 → get_or row b 0 ≡ joining h a b) → row ≡ map (joining h a) (up_to 9)
-  row_told row k e =
-      ext_get_or 0 row (map (joining h a) (up_to 9)) (k ∙ sym (length-listed (joining h a) 9))
-      (λ i l. e i (omega arith) ∙ sym (at_listed (joining h a) 9 i 0 (omega arith)))
+          rw (
+            times_at b l,
+            e,
+            far (card_at h n) a b l other,
+            lt-ltb 0 (times_defined h a)
+                (omega (arith, some, times_at a there)),
+          )
+          (and_comm (is_shift (card_at h n) a b) (ltb 0 (times_defined h b)))
 
 -- a card noted in a row, or not
 module _ (row times : List ℕ) (a end card : ℕ) where
@@ -181,7 +212,7 @@ module _ (row times : List ℕ) (a end card : ℕ) where
   not_defined_lem z b l = elim (ℕ_discrete end b) [
     | yes e ↦
         let y : get_or times b 0 ≡ 0 = ap (λ i. get_or times i 0) (sym e) ∙ z in
-        rw (y, and_false (not (eqb a b)), and_false (eqb end b))
+        rw (y, and-false (not (eqb a b)), and-false (eqb end b))
     | no e ↦ apart b e
   ]
 
@@ -190,7 +221,7 @@ module _ (row times : List ℕ) (a end card : ℕ) where
   lower_stays z b l = elim (ℕ_discrete end b) [
     | yes e ↦
         let y : (get_or row b 0 ≡ 0 → ⊥) = λ q. z (ap (λ i. get_or row i 0) e ∙ q) in
-        rw (ne_eqb (get_or row b 0) 0 y, and_false (notable times a end b))
+        rw (ne_eqb (get_or row b 0) 0 y, and-false (notable times a end b))
     | no e ↦ apart b e
   ]
 
@@ -206,3 +237,36 @@ module _ (row times : List ℕ) (a end card : ℕ) where
         ∙ rw (y, eq-eqb end b e, ne_eqb a b v, lt-ltb 0 (get_or times b 0) (omega (arith, u)))
     | no e ↦ get_or-set_other row end b card 0 (λ q. e (sym q)) ∙ apart b e
   ]
+
+-- a row once so many cards of the header are noted in it
+abbrev pub Filled : List ℕ → ℕ → List ℕ → ℕ → Type 0
+Filled h a row n = (b : ℕ) → b < 9 → get_or row b 0 ≡ joining_to h a b n
+
+module _ (h times : List ℕ) (known : times ≡ map (times_defined h) (up_to 9)) (a : ℕ) (there : a < 9)
+    (some : get_or times a 0 ≡ 0 → ⊥) (row : List ℕ) (n : ℕ) (so_far : Filled h a row n)
+    (card : List ℕ) (is : card ≡ card_at h n) (r : Option ℕ) (end : unwrap_or r 9 ≡ far_end card a) where
+  seen : (b : ℕ) → b < 9 → noted (get_or row b 0) (notable times a (unwrap_or r 9) b) (n + 1) ≡ joining_to h a b (n + 1)
+  seen b l = card_more h times known a there some n (unwrap_or r 9) (end ∙ ap (λ k. far_end k a) is) b l
+      (get_or row b 0) (so_far b l)
+
+  -- the next card is a shift of the datum
+  pub filled_more : (e : ℕ) → r ≡ Some e → (new : List ℕ)
+      → ((b : ℕ) → b < 9 → get_or new b 0 ≡ noted (get_or row b 0) (notable times a e b) (n + 1))
+      → Filled h a new (n + 1)
+  filled_more e q new f b l = f b l ∙ (rw (ap (λ o. unwrap_or o 9) q) at (seen b l))
+
+  -- it is none
+  pub filled_same : ((e : ℕ) → r ≡ Some e → ⊥) → Filled h a row (n + 1)
+  filled_same none b l = no_end row times a (unwrap_or r 9) (n + 1) (nine r none) b l ∙ seen b l
+    where
+      nine : (r : Option ℕ) → ((e : ℕ) → r ≡ Some e → ⊥) → 9 ≤ unwrap_or r 9
+      nine None none = omega arith
+      nine (Some e) none = absurd (none e refl)
+
+-- a whole row
+pub row_told : (h : List ℕ) (a : ℕ) (row : List ℕ) → length row ≡ 9 → Filled h a row (cards_in h)
+    → row ≡ map (joining h a) (up_to 9)
+unfolding joining
+row_told h a row k e =
+    ext_get_or 0 row (map (joining h a) (up_to 9)) (k ∙ sym (length-listed (joining h a) 9))
+    (λ i l. e i (omega arith) ∙ sym (at_listed (joining h a) 9 i 0 (omega arith)))

@@ -1,12 +1,9 @@
 -- Numbers of datums, and numbers that stand in columns.
-use Prim.Native.Nat.{ℕ, zero, suc, ◌+◌, ◌-◌, ◌≤◌}
+use Prim.Native.Nat.{ℕ, suc, ◌+◌, ◌-◌}
 use native.Mathlib.Omega.{arith}
 use mathlib.Core.Path.{◌≡◌, refl, sym, ap, ◌∙◌}
-use mathlib.Core.Bool.{false, ◌||◌, true≢false}
 use mathlib.Core.List.{List, [], ◌∷◌}
-use lib.Dec.{eqb, ltb}
 use lib.ListN.{get_or}
-use Rattle.header_check.specs.declared.Checked.TheVariants as checked
 use Rattle.header_check.specs.Refusing.{refusal_of}
 use Rattle.header_laws.proofs.Accepted.{printed}
 use Rattle.tie_rules.specs.packed.Numbers.{packed}
@@ -16,19 +13,13 @@ use Rattle.tie_lookup.specs.declared.search.Found.{Found}
 use Rattle.tie_lookup.specs.packed.Borne.{found_of, found_over}
 use Rattle.tie_lookup.proofs.search.Defined.{definitions_counted}
 use Rattle.survey_datums.specs.Datums.{times_defined}
-
-pub at_least_one : (n : ℕ) → (eqb n 0 || ltb 9 n) ≡ false → 1 ≤ n
-at_least_one zero e = absurd (true≢false e)
-at_least_one (suc n) e = omega arith
+use Rattle.base_refusal.specs.Refusals.{no_refusal}
 
 -- a number that was counted from 1
 unmarked : (l : List ℕ) → marked l - 1 ≡ get_or l 0 0
 unfolding marked
 unmarked [] = refl
 unmarked (n ∷ ns) = let e : suc n - 1 ≡ n = omega arith in e
-
-pub no_number : (l : List ℕ) (m : ℕ) → m ≡ marked l → m ≡ 0 → 0 ≡ get_or l 0 0
-no_number l m e z = (let q : 0 ≡ m - 1 = omega arith in q) ∙ ap (λ k. k - 1) e ∙ unmarked l
 
 pub the_number : (l : List ℕ) (m : ℕ) → m ≡ marked l → m - 1 ≡ get_or l 0 0
 the_number l m e = ap (λ k. k - 1) e ∙ unmarked l
@@ -37,7 +28,7 @@ the_number l m e = ap (λ k. k - 1) e ∙ unmarked l
 abbrev times : Found → ℕ
 times f = f.number
 
-pub found_times : (h : List ℕ) → refusal_of h ≡ checked.Accepted → (a k : ℕ) → k ≡ packed 1 (whole_offered 1 ((a + 1) ∷ []))
+pub found_times : (h : List ℕ) → refusal_of h ≡ no_refusal → (a k : ℕ) → k ≡ packed 1 (whole_offered 1 ((a + 1) ∷ []))
     → (f : Found) → f ≡ found_over h k → f.number ≡ times_defined h a
 unfolding found_over found_of times_defined whole_offered is_whole
 found_times h accepted a k e f q =

@@ -1,14 +1,11 @@
 -- The answer: for each of the nine datums undefined, no route, or the number of shifts and the route's cards; or the refusal.
-use Rattle.std.specs.Prelude.{ℕ, ◌-◌, cond, ◌&&◌, List, map, eqb, leb, ltb, get_or, replicate}
+use Rattle.std.specs.Prelude.{ℕ, ◌-◌, cond, ◌&&◌, List, map, eqb, leb, ltb, get_or, replicate, Result, Ok, Err, ⊤}
 use Rattle.base_lists.specs.Parts.{up_to}
 use Rattle.base_refusal.specs.declared.Refusal.{Refusal}
-use Rattle.base_refusal.specs.Refusals.{refusal}
-use Rattle.header_check.specs.declared.Checked.{Checked}
-use Rattle.header_check.specs.declared.Checked.TheVariants as checked
+use Rattle.base_refusal.specs.Refusals.{refusal, no_refusal}
 use Rattle.header_check.specs.Refusing.{refusal_of}
 use Rattle.survey_datums.specs.routing.Chains.{datums, distance}
 use Rattle.survey_datums.specs.routing.Tables.{entry, cards_of}
-use Rattle.survey_datums.specs.declared.Answer.TheVariants.{Told, Refused}
 use Rattle.survey_datums.specs.declared.Routes.{Routes}
 use Rattle.survey_datums.specs.declared.Way.{Way}
 use Rattle.survey_datums.specs.declared.Way.TheVariants.{Undefined, NoRoute, Shifts}
@@ -24,16 +21,16 @@ shifts_told h a = cond (is_defined h a) (distance (entry (joining_table h)) a) n
 
 -- the answer for a header that is not refused
 unfoldable pub told_of : List ℕ → Routes
-told_of h = record { answer = Told; shifts = map (shifts_told h) (up_to datums); cards = cards_of (joining_table h) }
+told_of h = record { answer = no_refusal; shifts = map (shifts_told h) (up_to datums); cards = cards_of (joining_table h) }
 
 -- the answer for one that is: every datum undefined, no cards
 unfoldable pub refused_with : Refusal → Routes
-refused_with r = record { answer = Refused r; shifts = replicate 9 not_defined; cards = replicate 72 0 }
+refused_with r = record { answer = Err r; shifts = replicate 9 not_defined; cards = replicate 72 0 }
 
 -- the header's refusal, then 22 where a datum is defined more than once
-unfoldable pub routes_for : Checked → List ℕ → Routes
-routes_for (checked.Refused r) h = refused_with r
-routes_for checked.Accepted h = cond (some_twice h) (refused_with (refusal 22 0 0)) (told_of h)
+unfoldable pub routes_for : Result ⊤ Refusal → List ℕ → Routes
+routes_for (Err r) h = refused_with r
+routes_for (Ok _) h = cond (some_twice h) (refused_with (refusal 22 0 0)) (told_of h)
 
 unfoldable pub routes_of : List ℕ → Routes
 routes_of h = routes_for (refusal_of h) h

@@ -1,14 +1,11 @@
 -- The routes as numbers in a lent list: nine to a datum, in the order of the datums.
-use Rattle.std.specs.Prelude.{ℕ, ◌+◌, ◌*◌, ◌-◌, ◌/◌, ◌%◌, cond, List, map, eqb, ltb, get_or}
+use Rattle.std.specs.Prelude.{ℕ, ◌+◌, ◌*◌, ◌-◌, ◌/◌, ◌%◌, cond, List, map, eqb, ltb, get_or, Result, Ok, Err, ⊤}
 use Rattle.base_lists.specs.Count.{count}
 use Rattle.base_lists.specs.Laid.{laid}
 use Rattle.base_lists.specs.Parts.{up_to}
 use Rattle.survey_datums.specs.routing.Chains.{datums, most_shifts}
-use Rattle.survey_datums.specs.declared.Answer.{Answer}
-use Rattle.survey_datums.specs.declared.Answer.TheVariants as answer
 use Rattle.survey_datums.specs.declared.Routes.{Routes}
-use Rattle.survey_datums.specs.declared.listing.Listed.{Listed}
-use Rattle.survey_datums.specs.declared.listing.Listed.TheVariants.{Routed, Refused}
+use Rattle.base_refusal.specs.declared.Refusal.{Refusal}
 
 -- how many numbers a datum has: its shifts, and its eight cards
 abbrev pub row_size : ℕ
@@ -27,17 +24,17 @@ unfoldable pub routed : List ℕ → ℕ
 routed shifts = count (λ a. ltb (get_or shifts a 0) datums) datums
 
 -- that number, or the refusal
-unfoldable pub listed_by : Answer → List ℕ → Listed
-listed_by answer.Told shifts = Routed (routed shifts)
-listed_by (answer.Refused r) shifts = Refused r
+unfoldable pub listed_by : Result ⊤ Refusal → List ℕ → Result ℕ Refusal
+listed_by (Ok _) shifts = Ok (routed shifts)
+listed_by (Err r) shifts = Err r
 
-unfoldable pub listed_of : Routes → Listed
+unfoldable pub listed_of : Routes → Result ℕ Refusal
 listed_of r = listed_by r.answer r.shifts
 
 -- the list as it was, or as many whole datums as fit and the rest as it was
-unfoldable pub list_by : Answer → List ℕ → List ℕ → List ℕ
-list_by answer.Told l w = laid row_size l w
-list_by (answer.Refused r) l w = l
+unfoldable pub list_by : Result ⊤ Refusal → List ℕ → List ℕ → List ℕ
+list_by (Ok _) l w = laid row_size l w
+list_by (Err r) l w = l
 
 unfoldable pub list_for : Routes → List ℕ → List ℕ
 list_for r l = list_by r.answer l (numbers_of r)

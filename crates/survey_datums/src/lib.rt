@@ -1,5 +1,5 @@
-// The routes by which a survey's datums are brought to datum 1: for each of the nine datums the fewest shifts, and the cards of one
-// such route.
+// The routes by which a survey's datums are brought to datum 1: for each of the nine datums the fewest shifts, and the
+// cards of one such route.
 
 #![tactic(auto)]
 
@@ -7,15 +7,15 @@ pub mod joining;
 pub mod listing;
 pub mod routing;
 
-ghost use Rattle.std.specs.Prelude.{◌≡◌, cond, ltb};
-ghost use Rattle.header_check.specs.declared.Checked.TheVariants.{Accepted};
+ghost use Rattle.base_refusal.specs.Refusals.{no_refusal};
+ghost use Rattle.std.specs.Prelude.{◌≡◌};
 ghost use Rattle.header_check.specs.Refusing.{refusal_of};
 ghost use Rattle.survey_datums.specs.Answer.{refused_with, routes_of, way_for, way_of};
 ghost use Rattle.survey_datums.specs.packed.Ends.{told_by};
 
 use crate::routing::{CARDS, DATUMS, NO_ROUTE};
 use base_refusal::{DATUM_TWICE, Refusal, refuse};
-use header_check::Checked;
+use std::array;
 
 // As a number of shifts: the datum is not defined.
 pub const UNDEFINED: u8 = 10;
@@ -27,10 +27,11 @@ pub enum Answer {
     Refused(Refusal),
 }
 
-// Of each datum from 1 on the number of shifts (9: no route, 10: not defined), and eight cards, 0 behind the last of its route.
+// Of each datum from 1 on the number of shifts (9: no route, 10: not defined), and eight cards, 0 behind the last of
+// its route.
 #[derive(Clone, Copy)]
 pub struct Routes {
-    pub answer: Answer,
+    pub answer: Result<(), Refusal>,
     pub shifts: [u8; DATUMS],
     pub cards: [u32; CARDS],
 }
@@ -47,31 +48,20 @@ pub enum Way {
 fn told(times: [usize; DATUMS], shifts: [u8; DATUMS]) -> [u8; DATUMS]
     ensures { result ≡ told_by times shifts }
 {
-    let mut told = [UNDEFINED; DATUMS];
-    let mut datum = 0;
-    while datum < DATUMS {
-        told[datum] = told_of(times[datum], shifts[datum]);
-        datum += 1;
-    }
-    told
-}
-
-// The same of one datum.
-fn told_of(times: usize, shifts: u8) -> u8
-    ensures { result ≡ cond (ltb 0 times) shifts 10 }
-{
-    if times == 0 {
-        return UNDEFINED;
-    }
-    shifts
+    array::from_fn(|datum| if times[datum] == 0 {
+        UNDEFINED
+    } else {
+        shifts[datum]
+    })
 }
 
 // The answer where nothing can be told.
+#[tactic(auto, unfolding(crate::specs::Answer::refused_with))]
 fn refused(refusal: Refusal) -> Routes
     ensures { result ≡ refused_with refusal }
 {
     Routes {
-        answer: Answer::Refused(refusal),
+        answer: Err(refusal),
         shifts: [UNDEFINED; DATUMS],
         cards: [0; CARDS],
     }
@@ -79,7 +69,7 @@ fn refused(refusal: Refusal) -> Routes
 
 // The routes of an accepted header, or 22 where a datum is defined more than once.
 fn routes_in(header: &[u8]) -> Routes
-    requires { refusal_of header.now ≡ Accepted }
+    requires { refusal_of header.now ≡ no_refusal }
     ensures { result ≡ routes_of header.now }
 {
     let times = joining::all_times(header);
@@ -90,9 +80,9 @@ fn routes_in(header: &[u8]) -> Routes
     let shifts = routing::distances(table);
     let cards = routing::cards_of(table, shifts);
     Routes {
-        answer: Answer::Told,
+        answer: Ok(()),
         shifts: told(times, shifts),
-        cards: cards,
+        cards,
     }
 }
 
@@ -102,8 +92,8 @@ pub fn find_routes(header: &[u8]) -> Routes
 {
     let checked = header_check::check(header);
     match checked {
-        Checked::Accepted => routes_in(header),
-        Checked::Refused(refusal) => refused(refusal),
+        Ok(()) => routes_in(header),
+        Err(refusal) => refused(refusal),
     }
 }
 

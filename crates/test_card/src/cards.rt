@@ -1,52 +1,30 @@
 // The commands on one card: field, text, open, put, write and judge.
 use base_refusal::Refusal;
-use card_check::Verdict;
+use card_check::Offence;
 use card_field::FieldRead;
-use card_put::opening::Opened;
-use card_put::{Entered, opening};
+use card_put::opening;
 use format_layout::{CARD, Form};
 use std::io::Stdout;
-use test_script::values::Offer;
-use test_script::{Count, say, values};
+use test_script::{say, values};
 
-// A form, or what is none.
-#[derive(Drop)]
-enum Known {
-    Is(Form),
-    Not,
-}
-
-// A field number and a form, or what is none.
-#[derive(Drop)]
-enum Asked {
-    Is(usize, usize),
-    Not,
-}
-
-// Sets blank columns to a card, |columns| as they are or |columns> with blanks up to the eightieth, and answers its size.
-fn card_in(s: &[u8], columns: &mut [u8]) -> Count {
-    let Count::Is(n) = test_script::columns_to(s, b'>', columns) else {
-        return test_script::columns_in(s, columns);
-    };
-    if CARD < n as usize {
-        return Count::Not;
+// Sets blank columns to a card, |columns| as they are or |columns> with blanks up to the eightieth: its size.
+fn card_in(s: &[u8], columns: &mut [u8]) -> Option<usize> {
+    match test_script::columns_to(s, b'>', columns) {
+        Some(n) => (n <= CARD).then_some(CARD),
+        None => test_script::columns_in(s, columns),
     }
-    Count::Is(CARD as u64)
-}
-
-// Writes a refusal: its number, card and column.
-fn say_refusal(to: Stdout, r: Refusal) {
-    say::words(to, b"refused");
-    say::next(to, r.number as u64);
-    say::next(to, r.card as u64);
-    say::next(to, r.column as u64)
 }
 
 // Writes what was read.
-fn say_read(to: Stdout, r: FieldRead) {
+fn say_read(to: Stdout, r: Result<FieldRead, Refusal>) {
     match r {
-        FieldRead::Is(v, misplaced) => values::say_placed(to, v, misplaced),
-        FieldRead::Refused(why) => say_refusal(to, why),
+        Ok(
+            FieldRead {
+                value: v,
+                misplaced,
+            },
+        ) => values::say_placed(to, v, misplaced),
+        Err(why) => say::refused(to, why),
     }
 }
 
@@ -57,26 +35,26 @@ fn say_card(to: Stdout, card: &[u8]) {
 }
 
 // Writes what came of an entry.
-fn say_entered(to: Stdout, e: Entered) {
+fn say_entered(to: Stdout, e: Result<(), Refusal>) {
     match e {
-        Entered::Done => say::words(to, b"done"),
-        Entered::Refused(why) => say_refusal(to, why),
+        Ok(()) => say::words(to, b"done"),
+        Err(why) => say::refused(to, why),
     }
 }
 
 // Writes what came of opening.
-fn say_opened(to: Stdout, o: Opened) {
+fn say_opened(to: Stdout, o: Result<(), Refusal>) {
     match o {
-        Opened::Done => say::words(to, b"done"),
-        Opened::Refused(why) => say_refusal(to, why),
+        Ok(()) => say::words(to, b"done"),
+        Err(why) => say::refused(to, why),
     }
 }
 
 // Writes a card's verdict.
-fn say_verdict(to: Stdout, v: Verdict) {
+fn say_verdict(to: Stdout, v: Result<(), Offence>) {
     match v {
-        Verdict::Fine => say::words(to, b"fine"),
-        Verdict::Offence(number, column) => {
+        Ok(()) => say::words(to, b"fine"),
+        Err(Offence { number, column }) => {
             say::words(to, b"offence");
             say::next(to, number as u64);
             say::next(to, column as u64)
@@ -85,32 +63,25 @@ fn say_verdict(to: Stdout, v: Verdict) {
 }
 
 // The field number and the form that a command begins with.
-fn asked_in(args: &[u8]) -> Asked {
-    let Count::Is(number) = test_script::count_in(test_script::word(args)) else {
-        return Asked::Not;
-    };
-    let Count::Is(form) = test_script::count_in(test_script::word(test_script::next(args))) else {
-        return Asked::Not;
-    };
-    Asked::Is(number as usize, form as usize)
+fn asked_in(args: &[u8]) -> Option<(usize, usize)> {
+    let number = test_script::count_in(test_script::word(args))?;
+    let form = test_script::count_in(test_script::word(test_script::next(args)))?;
+    Some((number as usize, form as usize))
 }
 
 // The form that a word names.
-fn form_in(s: &[u8]) -> Known {
-    if s.len() != 1 {
-        return Known::Not;
-    }
-    match s[0] {
-        b'0' => Known::Is(Form::Angles),
-        b'1' => Known::Is(Form::Grid),
-        b'?' => Known::Is(Form::Unknown),
-        _ => Known::Not,
+fn form_in(s: &[u8]) -> Option<Form> {
+    match s {
+        [b'0'] => Some(Form::Angles),
+        [b'1'] => Some(Form::Grid),
+        [b'?'] => Some(Form::Unknown),
+        _ => None,
     }
 }
 
 // judge FORM card
 fn judge(to: Stdout, args: &[u8], card: &[u8]) {
-    let Known::Is(form) = form_in(test_script::word(args)) else {
+    let Some(form) = form_in(test_script::word(args)) else {
         return say::unknown(to);
     };
     say_verdict(to, card_check::judge_card(card, form))
@@ -119,19 +90,16 @@ fn judge(to: Stdout, args: &[u8], card: &[u8]) {
 // open |code| card
 fn open(to: Stdout, args: &[u8], card: &mut [u8]) {
     let mut code = [0u8; 128];
-    let Count::Is(length) = test_script::columns_in(test_script::first_part(args), &mut code) else {
+    let Some(length) = test_script::columns_in(test_script::first_part(args), &mut code) else {
         return say::unknown(to);
     };
-    say_opened(
-        to,
-        opening::open(card, test_script::front(&code, length as usize)),
-    );
+    say_opened(to, opening::open(card, test_script::front(&code, length)));
     say_card(to, card)
 }
 
 // put N FORM value card
 fn put(to: Stdout, offer: &[u8], card: &mut [u8], number: usize, form: usize) {
-    let Offer::Is(v) = values::value_in(test_script::before_bar(offer)) else {
+    let Some(v) = values::value_in(test_script::before_bar(offer)) else {
         return say::unknown(to);
     };
     say_entered(to, card_put::put(card, number, form, v));
@@ -141,18 +109,17 @@ fn put(to: Stdout, offer: &[u8], card: &mut [u8], number: usize, form: usize) {
 // write N FORM |text| card
 fn write(to: Stdout, offer: &[u8], card: &mut [u8], number: usize, form: usize) {
     let mut text = [0u8; 128];
-    let Count::Is(length) = test_script::columns_in(test_script::first_part(offer), &mut text)
-    else {
+    let Some(length) = test_script::columns_in(test_script::first_part(offer), &mut text) else {
         return say::unknown(to);
     };
-    let offered = test_script::front(&text, length as usize);
+    let offered = test_script::front(&text, length);
     say_entered(to, card_put::put_text(card, number, form, offered));
     say_card(to, card)
 }
 
 // field N FORM card, text N FORM card and the two entries
 fn on_field(to: Stdout, letter: u8, args: &[u8], card: &mut [u8]) {
-    let Asked::Is(number, form) = asked_in(args) else {
+    let Some((number, form)) = asked_in(args) else {
         return say::unknown(to);
     };
     let offer = test_script::next(test_script::next(args));
@@ -167,10 +134,9 @@ fn on_field(to: Stdout, letter: u8, args: &[u8], card: &mut [u8]) {
 
 // Answers a command on the card that the first columns are.
 fn on_card(to: Stdout, line: &[u8], columns: &mut [u8], size: usize) {
-    if columns.len() < size {
+    let Some(card) = columns.get_mut(..size) else {
         return say::unknown(to);
-    }
-    let card = &mut columns[..size];
+    };
     let args = test_script::next(line);
     match test_script::letter(line) {
         b'j' => judge(to, args, card),
@@ -183,8 +149,7 @@ fn on_card(to: Stdout, line: &[u8], columns: &mut [u8], size: usize) {
 fn card_part(line: &[u8]) -> &[u8] {
     let parts = test_script::from_bar(line);
     match test_script::letter(line) {
-        b'o' => test_script::second_part(parts),
-        b'w' => test_script::second_part(parts),
+        b'o' | b'w' => test_script::second_part(parts),
         _ => parts,
     }
 }
@@ -192,8 +157,8 @@ fn card_part(line: &[u8]) -> &[u8] {
 // Answers a command.
 pub fn answer(to: Stdout, line: &[u8]) {
     let mut columns = [b' '; 128];
-    let Count::Is(size) = card_in(card_part(line), &mut columns) else {
+    let Some(size) = card_in(card_part(line), &mut columns) else {
         return say::unknown(to);
     };
-    on_card(to, line, &mut columns, size as usize)
+    on_card(to, line, &mut columns, size)
 }

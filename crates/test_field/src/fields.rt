@@ -1,57 +1,48 @@
 // The commands on one field's columns: read, text, write and put.
-use base_refusal::Written;
+use base_refusal::Unwritten;
 use std::io::Stdout;
-use test_script::values::Offer;
-use test_script::{Count, say, values};
+use test_script::{say, values};
 use value_field::spelling::Spelling;
 use value_field::{spelling, writing};
 
-// A spelling, or what is none.
-#[derive(Drop)]
-enum Kind {
-    Is(Spelling),
-    Not,
-}
-
 // The spelling that a letter names.
-fn kind_of(b: u8) -> Kind {
+fn kind_of(b: u8) -> Option<Spelling> {
     match b {
-        b'A' => Kind::Is(Spelling::Text),
-        b'C' => Kind::Is(Spelling::Comment),
-        b'I' => Kind::Is(Spelling::Whole),
-        b'N' => Kind::Is(Spelling::Decimal),
-        b'D' => Kind::Is(Spelling::Date),
-        b'Y' => Kind::Is(Spelling::Latitude),
-        b'X' => Kind::Is(Spelling::Longitude),
-        b'y' => Kind::Is(Spelling::Northing),
-        b'x' => Kind::Is(Spelling::Easting),
-        _ => Kind::Not,
+        b'A' => Some(Spelling::Text),
+        b'C' => Some(Spelling::Comment),
+        b'I' => Some(Spelling::Whole),
+        b'N' => Some(Spelling::Decimal),
+        b'D' => Some(Spelling::Date),
+        b'Y' => Some(Spelling::Latitude),
+        b'X' => Some(Spelling::Longitude),
+        b'y' => Some(Spelling::Northing),
+        b'x' => Some(Spelling::Easting),
+        _ => None,
     }
 }
 
 // The spelling that the first word names.
-fn kind_in(args: &[u8]) -> Kind {
-    let name = test_script::word(args);
-    if name.len() != 1 {
-        return Kind::Not;
+fn kind_in(args: &[u8]) -> Option<Spelling> {
+    match test_script::word(args) {
+        [b] => kind_of(*b),
+        _ => None,
     }
-    kind_of(name[0])
 }
 
 // What came of writing, by the paper's number.
-fn number_of(w: Written) -> u64 {
+fn number_of(w: Result<(), Unwritten>) -> u64 {
     match w {
-        Written::Done => 0,
-        Written::Unprintable => 4,
-        Written::Malformed => 9,
-        Written::OutOfRange => 10,
-        Written::OtherKind => 12,
-        Written::NoRoom => 14,
+        Ok(()) => 0,
+        Err(Unwritten::Unprintable) => 4,
+        Err(Unwritten::Malformed) => 9,
+        Err(Unwritten::OutOfRange) => 10,
+        Err(Unwritten::OtherKind) => 12,
+        Err(Unwritten::NoRoom) => 14,
     }
 }
 
 // Writes what came of writing, and the columns.
-fn say_written(to: Stdout, w: Written, columns: &[u8]) {
+fn say_written(to: Stdout, w: Result<(), Unwritten>, columns: &[u8]) {
     say::number(to, number_of(w));
     say::words(to, b" ");
     say::columns(to, columns)
@@ -71,7 +62,7 @@ fn read(to: Stdout, field: &[u8], k: Spelling, text: bool) {
 
 // write K W value
 fn write(to: Stdout, offer: &[u8], columns: &mut [u8], k: Spelling) {
-    let Offer::Is(v) = values::value_in(offer) else {
+    let Some(v) = values::value_in(offer) else {
         return say::unknown(to);
     };
     say_written(to, writing::write(columns, k, v), columns)
@@ -80,19 +71,18 @@ fn write(to: Stdout, offer: &[u8], columns: &mut [u8], k: Spelling) {
 // put K W |text|
 fn put(to: Stdout, offer: &[u8], columns: &mut [u8], k: Spelling) {
     let mut text = [0u8; 128];
-    let Count::Is(size) = test_script::columns_in(offer, &mut text) else {
+    let Some(size) = test_script::columns_in(offer, &mut text) else {
         return say::unknown(to);
     };
-    let offered = test_script::front(&text, size as usize);
+    let offered = test_script::front(&text, size);
     say_written(to, writing::write_text(columns, k, offered), columns)
 }
 
 // Writes a value or a text into the first w columns.
 fn enter(to: Stdout, offer: &[u8], columns: &mut [u8], w: usize, k: Spelling, text: bool) {
-    if columns.len() < w {
+    let Some(field) = columns.get_mut(..w) else {
         return say::unknown(to);
-    }
-    let field = &mut columns[..w];
+    };
     if text {
         return put(to, offer, field, k);
     }
@@ -103,8 +93,8 @@ fn enter(to: Stdout, offer: &[u8], columns: &mut [u8], w: usize, k: Spelling, te
 fn on_field(to: Stdout, args: &[u8], k: Spelling, letter: u8) {
     let mut columns = [b'#'; 128];
     let rest = test_script::next(args);
-    if (letter == b'w') | (letter == b'p') {
-        let Count::Is(w) = test_script::count_in(test_script::word(rest)) else {
+    if letter == b'w' || letter == b'p' {
+        let Some(w) = test_script::count_in(test_script::word(rest)) else {
             return say::unknown(to);
         };
         return enter(
@@ -116,21 +106,16 @@ fn on_field(to: Stdout, args: &[u8], k: Spelling, letter: u8) {
             letter == b'p',
         );
     }
-    let Count::Is(w) = test_script::columns_in(rest, &mut columns) else {
+    let Some(w) = test_script::columns_in(rest, &mut columns) else {
         return say::unknown(to);
     };
-    read(
-        to,
-        test_script::front(&columns, w as usize),
-        k,
-        letter == b't',
-    )
+    read(to, test_script::front(&columns, w), k, letter == b't')
 }
 
 // Answers a command.
 pub fn answer(to: Stdout, line: &[u8]) {
     let args = test_script::next(line);
-    let Kind::Is(k) = kind_in(args) else {
+    let Some(k) = kind_in(args) else {
         return say::unknown(to);
     };
     on_field(to, args, k, test_script::letter(line))

@@ -1,6 +1,8 @@
-// The answers, written as they come. Not collected in a page: a function that is lent one and hands on its end takes the prover
-// four times as long.
+// The answers, written as they come. Not collected in a page: a function that is lent one and hands on its end takes the
+// prover four times as long.
 
+use base_refusal::Refusal;
+use std::fmt::Display;
 use std::io::Stdout;
 
 // Writes bytes as they are; where that fails, what was written is not the answer that is stored.
@@ -9,14 +11,22 @@ pub fn words(to: Stdout, s: &[u8]) {
 }
 
 // Writes a number.
-pub fn number(to: Stdout, n: u64) {
+pub fn number<N: Display + Drop>(to: Stdout, n: N) {
     let _ = to.print(n);
 }
 
 // Writes a number behind a blank.
-pub fn next(to: Stdout, n: u64) {
+pub fn next<N: Display + Drop>(to: Stdout, n: N) {
     words(to, b" ");
     number(to, n)
+}
+
+// Writes a refusal: its number, card and column.
+pub fn refused(to: Stdout, r: Refusal) {
+    words(to, b"refused");
+    next(to, r.number);
+    next(to, r.card);
+    next(to, r.column)
 }
 
 // Ends a line.
@@ -40,24 +50,14 @@ fn shown(b: u8) -> u8 {
     }
 }
 
-// Sets the text to what shows columns, and answers how many there was room for.
-fn show(s: &[u8], text: &mut [u8]) -> usize {
-    let mut i = 0;
-    while i < s.len() {
-        if text.len() <= i {
-            return i;
-        }
-        text[i] = shown(s[i]);
-        i += 1;
-    }
-    i
-}
-
 // Writes columns between bars: a script sets no more than there is room for.
 pub fn columns(to: Stdout, s: &[u8]) {
     let mut text = [0u8; 128];
-    let n = show(s, &mut text);
+    let size = s.len().min(text.len());
+    for (place, b) in text.iter_mut().zip(s) {
+        *place = shown(*b);
+    }
     words(to, b"|");
-    words(to, crate::front(&text, n));
+    words(to, &text[..size]);
     words(to, b"|")
 }

@@ -1,151 +1,84 @@
 // Values: as a script spells them, and as an answer does.
-use crate::{Count, Signed, say};
-use base_digits::signs;
-use base_value::{Columns, Date, Decimal, Reading, Value};
+use crate::say;
+use base_value::{Columns, Date, Decimal, Unread, Value};
 use std::io::Stdout;
 
-// A value that is offered, or what is none.
-#[derive(Drop)]
-pub enum Offer {
-    Is(Value),
-    Not,
-}
-
-// A number that fits 32 bits, or what is none.
-#[derive(Drop)]
-enum Small {
-    Is(u32),
-    Not,
-}
-
-// A whole number.
-fn whole_in(s: &[u8]) -> Offer {
-    let Signed::Is(z) = crate::signed_in(s) else {
-        return Offer::Not;
-    };
-    Offer::Is(Value::Whole(z))
-}
-
-// An angle.
-fn angle_in(s: &[u8]) -> Offer {
-    let Signed::Is(z) = crate::signed_in(s) else {
-        return Offer::Not;
-    };
-    Offer::Is(Value::Angle(z))
-}
-
 // Units and places.
-fn decimal_in(s: &[u8]) -> Offer {
-    let Signed::Is(z) = crate::signed_in(crate::word(s)) else {
-        return Offer::Not;
-    };
-    let Count::Is(p) = crate::count_in(crate::next(s)) else {
-        return Offer::Not;
-    };
-    Offer::Is(Value::Decimal(Decimal {
-        units: z,
-        places: p as usize,
+fn decimal_in(s: &[u8]) -> Option<Value> {
+    Some(Value::Decimal(Decimal {
+        units: crate::signed_in(crate::word(s))?,
+        places: crate::count_in(crate::next(s))? as usize,
     }))
 }
 
 // A number that fits 32 bits.
-fn small_in(s: &[u8]) -> Small {
-    let Count::Is(n) = crate::count_in(s) else {
-        return Small::Not;
-    };
-    if n <= 4294967295 {
-        return Small::Is(n as u32);
-    }
-    Small::Not
+fn small_in(s: &[u8]) -> Option<u32> {
+    u32::try_from(crate::count_in(s)?).ok()
 }
 
 // Year, month and day.
-fn date_in(s: &[u8]) -> Offer {
+fn date_in(s: &[u8]) -> Option<Value> {
     let rest = crate::next(s);
-    let Small::Is(year) = small_in(crate::word(s)) else {
-        return Offer::Not;
-    };
-    let Small::Is(month) = small_in(crate::word(rest)) else {
-        return Offer::Not;
-    };
-    let Small::Is(day) = small_in(crate::next(rest)) else {
-        return Offer::Not;
-    };
-    Offer::Is(Value::Date(Date { year, month, day }))
+    Some(Value::Date(Date {
+        year: small_in(crate::word(s))?,
+        month: small_in(crate::word(rest))?,
+        day: small_in(crate::next(rest))?,
+    }))
 }
 
 // The first and the last column of a text.
-fn text_in(s: &[u8]) -> Offer {
-    let Count::Is(first) = crate::count_in(crate::word(s)) else {
-        return Offer::Not;
-    };
-    let Count::Is(last) = crate::count_in(crate::next(s)) else {
-        return Offer::Not;
-    };
-    Offer::Is(Value::Text(Columns {
-        first: first as usize,
-        last: last as usize,
+fn text_in(s: &[u8]) -> Option<Value> {
+    Some(Value::Text(Columns {
+        first: crate::count_in(crate::word(s))? as usize,
+        last: crate::count_in(crate::next(s))? as usize,
     }))
 }
 
 // The value that the words spell.
-pub fn value_in(s: &[u8]) -> Offer {
-    let rest = crate::next(s);
-    if crate::same(s, b"absent") {
-        return Offer::Is(Value::Absent);
+pub fn value_in(s: &[u8]) -> Option<Value> {
+    if s == b"absent".as_slice() {
+        return Some(Value::Absent);
     }
-    if crate::begins(s, b"whole ") {
-        return whole_in(rest);
+    if let Some(whole) = s.strip_prefix(b"whole ") {
+        return crate::signed_in(whole).map(Value::Whole);
     }
-    if crate::begins(s, b"decimal ") {
-        return decimal_in(rest);
+    if let Some(decimal) = s.strip_prefix(b"decimal ") {
+        return decimal_in(decimal);
     }
-    if crate::begins(s, b"angle ") {
-        return angle_in(rest);
+    if let Some(angle) = s.strip_prefix(b"angle ") {
+        return crate::signed_in(angle).map(Value::Angle);
     }
-    if crate::begins(s, b"date ") {
-        return date_in(rest);
+    if let Some(date) = s.strip_prefix(b"date ") {
+        return date_in(date);
     }
-    if crate::begins(s, b"text ") {
-        return text_in(rest);
-    }
-    Offer::Not
-}
-
-// Writes a number that may be below zero behind a blank.
-fn say_signed(to: Stdout, z: i64) {
-    if signs::below_zero(z) {
-        say::words(to, b" -");
-        return say::number(to, signs::magnitude(z));
-    }
-    say::next(to, signs::magnitude(z))
+    text_in(s.strip_prefix(b"text ")?)
 }
 
 // Writes a word and a number.
 fn say_named(to: Stdout, name: &[u8], z: i64) {
     say::words(to, name);
-    say_signed(to, z)
+    say::next(to, z)
 }
 
 // Writes units and places.
 fn say_decimal(to: Stdout, d: Decimal) {
     say_named(to, b"decimal", d.units);
-    say::next(to, d.places as u64)
+    say::next(to, d.places)
 }
 
 // Writes year, month and day.
 fn say_date(to: Stdout, d: Date) {
     say::words(to, b"date");
-    say::next(to, d.year as u64);
-    say::next(to, d.month as u64);
-    say::next(to, d.day as u64)
+    say::next(to, d.year);
+    say::next(to, d.month);
+    say::next(to, d.day)
 }
 
 // Writes the first and the last column of a text.
 fn say_text(to: Stdout, c: Columns) {
     say::words(to, b"text");
-    say::next(to, c.first as u64);
-    say::next(to, c.last as u64)
+    say::next(to, c.first);
+    say::next(to, c.last)
 }
 
 // Writes a value.
@@ -169,10 +102,10 @@ pub fn say_placed(to: Stdout, v: Value, misplaced: bool) {
 }
 
 // Writes what stands in a field, or the number of its refusal.
-pub fn say_reading(to: Stdout, r: Reading, misplaced: bool) {
+pub fn say_reading(to: Stdout, r: Result<Value, Unread>, misplaced: bool) {
     match r {
-        Reading::Held(v) => say_placed(to, v, misplaced),
-        Reading::Malformed => say::number(to, 9),
-        Reading::OutOfRange => say::number(to, 10),
+        Ok(v) => say_placed(to, v, misplaced),
+        Err(Unread::Malformed) => say::number(to, 9),
+        Err(Unread::OutOfRange) => say::number(to, 10),
     }
 }

@@ -1,41 +1,30 @@
 // Questions about a key.
 use base_refusal::Refusal;
 use std::io::Stdout;
-use test_script::{Count, Signed, headers, say};
+use test_script::say;
 use tie_lookup::questions::{Defined, Key};
 use tie_lookup::{Node, Observation, Sensor, Streamer};
 
-// Writes a refusal.
-pub fn say_refused(to: Stdout, r: Refusal) {
-    say::words(to, b"refused");
-    say::next(to, r.number as u64);
-    say::next(to, r.card as u64);
-    say::next(to, r.column as u64)
-}
-
 // Writes what a header says of a key.
-pub fn say_key(to: Stdout, d: Defined) {
+pub fn say_key(to: Stdout, d: Result<Defined, Refusal>) {
     match d {
-        Defined::None => say::words(to, b"none"),
-        Defined::Only(card, column) => {
+        Ok(Defined::None) => say::words(to, b"none"),
+        Ok(Defined::Only(card, column)) => {
             say::words(to, b"only");
             say::next(to, card as u64);
             say::next(to, column as u64)
         }
-        Defined::Several(k) => {
+        Ok(Defined::Several(k)) => {
             say::words(to, b"several");
             say::next(to, k as u64)
         }
-        Defined::Refused(r) => say_refused(to, r),
+        Err(r) => say::refused(to, r),
     }
 }
 
 // The number, 0 where there is none.
 fn whole_in(s: &[u8]) -> i64 {
-    match test_script::signed_in(s) {
-        Signed::Is(n) => n,
-        Signed::Not => 0,
-    }
+    test_script::signed_in(s).unwrap_or(0)
 }
 
 // whole N, pair N M, or a text
@@ -51,23 +40,12 @@ fn key_in(s: &[u8]) -> Key {
     }
 }
 
-// The class, 0 where there is none.
-fn class_in(s: &[u8]) -> u64 {
-    match test_script::count_in(s) {
-        Count::Is(n) => n,
-        Count::Not => 0,
-    }
-}
-
 // CLASS KEY
-fn find_by(args: &[u8], header: &[u8]) -> Defined {
+fn find_by(args: &[u8], header: &[u8]) -> Result<Defined, Refusal> {
     let key = test_script::next(args);
     let mut columns = [b' '; 128];
-    let size = headers::number_of(test_script::columns_in(
-        test_script::from_bar(key),
-        &mut columns,
-    ));
-    let class = class_in(test_script::word(args));
+    let size = test_script::columns_in(test_script::from_bar(key), &mut columns).unwrap_or(0);
+    let class = test_script::count_in(test_script::word(args)).unwrap_or(0);
     tie_lookup::find_key(
         header,
         class,
@@ -77,7 +55,7 @@ fn find_by(args: &[u8], header: &[u8]) -> Defined {
 }
 
 // The same, or streamer, node, motion or observation and a number.
-pub fn find(args: &[u8], header: &[u8]) -> Defined {
+pub fn find(args: &[u8], header: &[u8]) -> Result<Defined, Refusal> {
     let n = whole_in(test_script::next(args));
     match test_script::letter(args) {
         b's' => tie_lookup::find_streamer(header, Streamer(n)),

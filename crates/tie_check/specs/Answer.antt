@@ -1,18 +1,15 @@
 -- The answer of the check, and the lent list behind it.
-use Rattle.std.specs.Prelude.{ℕ, List}
+use Rattle.std.specs.Prelude.{ℕ, List, Result, Ok, Err, ⊤}
 use Rattle.base_lists.specs.Laid.{laid}
-use Rattle.header_check.specs.declared.Checked.{Checked}
-use Rattle.header_check.specs.declared.Checked.TheVariants as checked
 use Rattle.tie_rules.specs.Faults.{entry_size}
-use Rattle.tie_check.specs.declared.Ties.{Ties}
-use Rattle.tie_check.specs.declared.Ties.TheVariants.{Found, Refused}
+use Rattle.base_refusal.specs.declared.Refusal.{Refusal}
 
 -- the header's refusal, or the number of all faults
-unfoldable pub answer_for : Checked → ℕ → Ties
-answer_for checked.Accepted n = Found n
-answer_for (checked.Refused r) n = Refused r
+unfoldable pub answer_for : Result ⊤ Refusal → ℕ → Result ℕ Refusal
+answer_for (Ok _) n = Ok n
+answer_for (Err r) n = Err r
 
 -- the list as it was, or as many whole entries as fit and the rest as it was
-unfoldable pub list_for : Checked → List ℕ → List ℕ → List ℕ
-list_for checked.Accepted l w = laid entry_size l w
-list_for (checked.Refused r) l w = l
+unfoldable pub list_for : Result ⊤ Refusal → List ℕ → List ℕ → List ℕ
+list_for (Ok _) l w = laid entry_size l w
+list_for (Err r) l w = l

@@ -7,7 +7,7 @@ ghost use Rattle.tie_rules.specs.packed.Rows.{row_at};
 ghost use Rattle.tie_check.specs.packed.Begins.{begins, walked, any_left};
 
 use card_field::judging;
-use format_layout::{Form, fields};
+use format_layout::{CARD, Form, fields};
 use tie_rules::{SLOTS, keys};
 
 // The last column of a code.
@@ -43,8 +43,8 @@ fn some_left(card: &[u8], layout: usize) -> bool
     requires { length card.now ≡ 80 }
     ensures { result ≡ any_left card.now (fields_of layout) }
 {
-    let mut number = 0;
-    loop {
+    // No layout has more fields than a card has columns.
+    for number in 0..CARD {
         let row = format_layout::row_of(layout, number + 1);
         if row == 0 {
             return false;
@@ -52,8 +52,8 @@ fn some_left(card: &[u8], layout: usize) -> bool
         if judging::is_misplaced(card, row, Form::Angles) {
             return true;
         }
-        number += 1;
     }
+    false
 }
 
 // Whether a card has a misplaced number at all: none that the screen is sure of has.
@@ -72,13 +72,11 @@ fn row_for(layout: usize, column: usize) -> u64
     requires { column ≤ 80 }
     ensures { result ≡ row_at layout column }
 {
-    let mut slot: usize = 0;
-    while slot < SLOTS {
+    for slot in 0..SLOTS {
         let row = tie_rules::tie_of(layout, slot + 1);
         if keys::column_of(row) == column {
             return row;
         }
-        slot += 1;
     }
     column as u64
 }

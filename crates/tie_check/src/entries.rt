@@ -26,10 +26,7 @@ fn put(list: &mut [u32], at: usize, card: u32, column: u32, kind: u32, vessel: u
     if list.len() < at + ENTRY {
         return;
     }
-    list[at] = card;
-    list[at + 1] = column;
-    list[at + 2] = kind;
-    list[at + 3] = vessel;
+    list[at..at + ENTRY].copy_from_slice(&[card, column, kind, vessel]);
 }
 
 // The next entry, where there is a fault.

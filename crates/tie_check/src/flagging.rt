@@ -41,10 +41,7 @@ pub fn flag_shared(cards: &mut [u8; CARDS], keys: &[u64; ROOM], links: &[u16; LI
     requires linked { Linked keys.now links.now }
     ensures { cards.new ≡ flagged_to cards.old keys.now links.now (count_in links.now) }
 {
-    let n = tie_store::entries_in(links);
-    let mut i: usize = 0;
-    while i < n {
+    for i in 0..tie_store::entries_in(links) {
         flag_entry(cards, keys, links, i);
-        i += 1;
     }
 }

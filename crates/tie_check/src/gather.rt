@@ -39,14 +39,12 @@ fn gather_card(
     ensures keys { keys.new ≡ (with_slots (store keys.old links.old) card.now tag 5).keys }
     ensures links { links.new ≡ (with_slots (store keys.old links.old) card.now tag 5).links }
 {
-    let mut slot: usize = 0;
-    while slot < SLOTS {
+    for slot in 0..SLOTS {
         let row = tie_rules::tie_of(layout, slot + 1);
         if row == 0 {
             return;
         }
         gather_number(keys, links, keys::defined_by(card, row), tag);
-        slot += 1;
     }
 }
 
@@ -59,14 +57,9 @@ pub fn gather(header: &[u8], cards: &[u8; CARDS], keys: &mut [u64; ROOM], links:
     ensures keys { keys.new ≡ (gathered header.now).keys }
     ensures links { links.new ≡ (gathered header.now).links }
 {
-    let count = header.len() / CARD;
-    let mut place = 0;
-    while place < count {
-        let from = place * CARD;
-        let card = &header[from..from + CARD];
+    for (place, card) in header.chunks_exact(CARD).enumerate() {
         let layout = forms::layout_in(cards[place]);
         let tag = tags::tag_for(card, layout, place);
         gather_card(keys, links, card, layout, tag);
-        place += 1;
     }
 }

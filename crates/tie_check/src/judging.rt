@@ -18,10 +18,11 @@ use tie_store::{LINKS, ROOM, Told};
 const WAYPOINT_COUNT: usize = 79;
 
 // Whether two vessel digits are there and differ.
+#[tactic(auto, using(std::proofs::lemmas::Bool::Decides::nat_tests), unfolding(tie_rules::specs::Keys::contradict))]
 fn digits_differ(a: u16, b: u16) -> bool
     ensures { result ≡ contradict a b }
 {
-    (a < NO_VESSEL) & ((b < NO_VESSEL) & (a != b))
+    a < NO_VESSEL && b < NO_VESSEL && a != b
 }
 
 // Whether a vessel digit contradicts: the vessel that the card states, or the digit in the tag of the only definition.
@@ -39,10 +40,7 @@ fn contradicts(card: &[u8], row: u64, vessel: u16, tag: u16) -> bool
 fn count_differs(stated: u64, found: usize) -> bool
     ensures { result ≡ differs (unmarked stated) found }
 {
-    if stated == 0 {
-        return false;
-    }
-    stated - 1 != found as u64
+    stated != 0 && stated - 1 != found as u64
 }
 
 // The count of a vessel that is stated, counted from 1; 0 is none.
@@ -74,6 +72,7 @@ fn miscounts(card: &[u8], row: u64, totals: Totals) -> bool
 }
 
 // Which kinds of fault the column of a row has, by what is told of the key that it refers to and of the one that it defines.
+#[tactic(auto, unfolding(crate::specs::packed::Asked::broken_by))]
 fn judge_column(
     card: &[u8],
     row: u64,
@@ -110,6 +109,7 @@ fn unbroken() -> Broken
 }
 
 // What is told of the key that the column of a row defines: nothing that matters on a card without a key that is defined twice.
+#[tactic(auto, unfolding(crate::specs::packed::Asked::told_defined))]
 fn told_defined(keys: &[u64; ROOM], links: &[u16; LINKS], once: bool, card: &[u8], row: u64) -> Told
     requires { Linked keys.now links.now }
     ensures { result ≡ told_defined keys.now links.now once card.now row }

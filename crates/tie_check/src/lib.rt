@@ -17,17 +17,9 @@ ghost use Rattle.tie_check.specs.Answer.{answer_for, list_for};
 
 use base_refusal::Refusal;
 use format_layout::CARDS;
-use header_check::Checked;
-
-// The answer of the check: the number of all faults, or the header's refusal.
-#[derive(Clone, Copy)]
-pub enum Ties {
-    Found(usize),
-    Refused(Refusal),
-}
 
 // The number of all faults, with their entries in the list as far as they fit; or the header's refusal, and the list as it was.
-pub fn check(header: &[u8], list: &mut [u32]) -> Ties
+pub fn check(header: &[u8], list: &mut [u32]) -> Result<usize, Refusal>
     ensures answer { result ≡ answer_for (refusal_of header.now) (length (faults header.now)) }
     ensures list { list.new
         ≡ list_for (refusal_of header.now) list.old (entries header.now) }
@@ -35,7 +27,7 @@ pub fn check(header: &[u8], list: &mut [u32]) -> Ties
     let mut cards = [0u8; CARDS];
     let checked = header_check::check_noting(header, &mut cards);
     match checked {
-        Checked::Accepted => Ties::Found(listing::list_faults(header, &mut cards, list)),
-        Checked::Refused(refusal) => Ties::Refused(refusal),
+        Ok(()) => Ok(listing::list_faults(header, &mut cards, list)),
+        Err(refusal) => Err(refusal),
     }
 }

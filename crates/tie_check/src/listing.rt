@@ -1,4 +1,5 @@
 // All broken ties of a header, in order, in a lent list as far as they fit.
+ghost use Rattle.base_refusal.specs.Refusals.{no_refusal};
 ghost use Rattle.std.specs.Prelude.{◌≡◌, ◌+◌, ◌*◌, ◌<◌, ◌≤◌, length};
 ghost use Rattle.base_lists.specs.Laid.{laid};
 ghost use Rattle.tie_rules.specs.Faults.{kinds, faults, entry_size, entries};
@@ -15,7 +16,7 @@ ghost use Rattle.tie_check.specs.packed.Stored.{stored_all};
 use crate::totals::Totals;
 use crate::{begins, entries, flagging, gather, judging, totals};
 use format_layout::{CARD, CARDS};
-use header_check::{Checked, forms};
+use header_check::forms;
 use tie_rules::keys;
 use tie_store::{LINKS, ROOM};
 
@@ -33,7 +34,7 @@ fn list_card(
     totals: Totals,
     place: usize,
 ) -> usize
-    requires header_value { refusal_of header.now ≡ Checked.Accepted }
+    requires header_value { refusal_of header.now ≡ no_refusal }
     requires flagged { Flagged header.now cards.now }
     requires store_value { (store.now ≡ (gathered header.now).keys) × (links.now ≡ (gathered header.now).links) }
     requires totals_value { totals ≡ totals_of header.now }
@@ -51,8 +52,7 @@ fn list_card(
     let left = begins::any_left(card, layout, forms::is_sure(note));
     let once = !forms::is_flagged(note);
     let mut m = found;
-    let mut i: usize = 0;
-    while i < STEPS {
+    for i in 0..STEPS {
         let row = begins::step_of(left, layout, i);
         if row == 0 {
             return m;
@@ -66,9 +66,8 @@ fn list_card(
             misplaced,
             (place + 1) as u32,
             keys::column_of(row) as u32,
-            vessel as u32,
+            u32::from(vessel),
         );
-        i += 1;
     }
     m
 }
@@ -82,26 +81,23 @@ fn list_cards(
     links: &[u16; LINKS],
     totals: Totals,
 ) -> usize
-    requires header_value { refusal_of header.now ≡ Checked.Accepted }
+    requires header_value { refusal_of header.now ≡ no_refusal }
     requires flagged { Flagged header.now cards.now }
     requires store_value { (store.now ≡ (gathered header.now).keys) × (links.now ≡ (gathered header.now).links) }
     requires totals_value { totals ≡ totals_of header.now }
     ensures list { list.new ≡ laid entry_size list.old (entries header.now) }
     ensures number { result ≡ length (faults header.now) }
 {
-    let count = header.len() / CARD;
-    let mut found: usize = 0;
-    let mut place: usize = 0;
-    while place < count {
+    let mut found = 0;
+    for place in 0..header.len() / CARD {
         found = list_card(list, found, header, cards, store, links, totals, place);
-        place += 1;
     }
     found
 }
 
 // The faults of a header that was accepted, with its cards noted; a card gets a flag where it has a key that is defined twice.
 pub fn list_faults(header: &[u8], cards: &mut [u8; CARDS], list: &mut [u32]) -> usize
-    requires header_value { refusal_of header.now ≡ Checked.Accepted }
+    requires header_value { refusal_of header.now ≡ no_refusal }
     requires noted { Noted header.now (cards_in header.now) cards.old }
     ensures list { list.new ≡ laid entry_size list.old (entries header.now) }
     ensures number { result ≡ length (faults header.now) }

@@ -28,5 +28,5 @@ pub fn vessel_in(tag: u16) -> u16
 pub fn card_in(tag: u16) -> usize
     ensures { (result ≡ card_told tag) × (result < largest) }
 {
-    (tag / PLACE) as usize
+    usize::from(tag / PLACE)
 }

@@ -1,11 +1,11 @@
 // What is counted of a header's definitions: the waypoints of each vessel and the points of the variation grid.
-ghost use Rattle.std.specs.Prelude.{◌≡◌, ◌<◌, ◌≤◌, length, get_or};
+ghost use Rattle.std.specs.Prelude.{◌≡◌, ◌≤◌};
 ghost use Rattle.header_check.specs.forms.Cards.{cards_in};
 ghost use Rattle.header_check.specs.Refusing.{largest};
 ghost use Rattle.header_check.specs.packed.Noted.{Noted};
 ghost use Rattle.tie_store.specs.Store.{room};
 ghost use Rattle.tie_check.specs.packed.Gathered.{gathered};
-ghost use Rattle.tie_check.specs.packed.Totals.{counted_up, waypoints_to, points_to, totals_of};
+ghost use Rattle.tie_check.specs.packed.Totals.{waypoints_to, points_to, totals_of};
 
 use format_layout::names::H0101;
 use format_layout::{CARD, CARDS};
@@ -22,25 +22,14 @@ pub struct Totals {
     pub points: usize,
 }
 
-fn count_up(waypoints: &mut [usize; VESSELS], vessel: usize)
-    requires vessel_bound { vessel < 11 }
-    requires waypoints_len { length waypoints.old ≡ 11 }
-    requires vessel_bound_2 { get_or waypoints.old vessel 0 < room }
-    ensures { waypoints.new ≡ counted_up waypoints.old vessel }
-{
-    waypoints[vessel] += 1;
-}
-
 // How many of the first n numbers are waypoints of each vessel.
 fn count_waypoints(numbers: &[u64; ROOM], n: usize) -> [usize; VESSELS]
     requires { n ≤ room }
     ensures { result ≡ waypoints_to numbers.now n }
 {
     let mut waypoints = [0usize; VESSELS];
-    let mut i: usize = 0;
-    while i < n {
-        count_up(&mut waypoints, packing::vessel_in(numbers[i]));
-        i += 1;
+    for number in &numbers[..n] {
+        waypoints[packing::vessel_in(*number)] += 1;
     }
     waypoints
 }
@@ -52,13 +41,10 @@ fn points_in(header: &[u8], cards: &[u8; CARDS]) -> usize
     ensures { result ≡ points_to header.now (cards_in header.now) }
 {
     let count = header.len() / CARD;
-    let mut found: usize = 0;
-    let mut place = 0;
-    while place < count {
-        found += base_lists::bit_of(forms::layout_in(cards[place]) == H0101);
-        place += 1;
-    }
-    found
+    cards[..count]
+        .iter()
+        .filter(|note| forms::layout_in(**note) == H0101)
+        .count()
 }
 
 // The totals of a header with its cards noted and its definitions gathered.

@@ -9,8 +9,7 @@ use lib.IntN.{pos, negsuc}
 use lib.ListN.{get_or}
 use borrow.Author.Tests.{eq-eqb, eqb-true}
 use Rattle.base_value.specs.declared.Value.TheVariants.{Absent, Whole, Decimal, Angle, Date, Text}
-use Rattle.base_value.specs.declared.Reading.{Reading}
-use Rattle.base_value.specs.declared.Reading.TheVariants.{Held, Malformed, OutOfRange}
+use Rattle.base_value.specs.declared.Unread.TheVariants.{Malformed, OutOfRange}
 use Rattle.value_field.specs.declared.spelling.Spelling.TheVariants as spelled
 use Rattle.value_field.specs.spelling.Reading.{reading_of}
 use Rattle.base_lists.specs.Parts.{alike}
@@ -23,6 +22,9 @@ use Rattle.tie_rules.specs.Faults.{differs, miscounted, broken_on, broken}
 use Rattle.tie_laws.proofs.Tests.{both, either}
 use Rattle.tie_rules.specs.Ties.{states_count}
 use Rattle.tie_laws.proofs.Sites.{is_site, at_site}
+use Rattle.std.specs.Prelude.{Result, Ok, Err}
+use Rattle.base_value.specs.declared.Unread.{Unread}
+use Rattle.base_value.specs.declared.Value.{Value}
 
 -- a whole number stands in the columns of a card, and it is not n
 pub record States-another (s : List ℕ) (first last n : ℕ) : Type 0 where
@@ -31,17 +33,17 @@ pub record States-another (s : List ℕ) (first last n : ℕ) : Type 0 where
   pub another : stated ≡ n → ⊥
 
 -- a key of a whole number is none, or one number
-pub whole_shape : (r : Reading) → (whole_key r ≡ []) ⊎ ((n : ℕ) × (whole_key r ≡ n ∷ []))
+pub whole_shape : (r : Result Value Unread) → (whole_key r ≡ []) ⊎ ((n : ℕ) × (whole_key r ≡ n ∷ []))
 unfolding whole_key
-whole_shape (Held (Whole (pos n))) = inr (n, refl)
-whole_shape (Held (Whole (negsuc n))) = inl refl
-whole_shape (Held Absent) = inl refl
-whole_shape (Held (Decimal d)) = inl refl
-whole_shape (Held (Angle z)) = inl refl
-whole_shape (Held (Date d)) = inl refl
-whole_shape (Held (Text c)) = inl refl
-whole_shape Malformed = inl refl
-whole_shape OutOfRange = inl refl
+whole_shape (Ok (Whole (pos n))) = inr (n, refl)
+whole_shape (Ok (Whole (negsuc n))) = inl refl
+whole_shape (Ok Absent) = inl refl
+whole_shape (Ok (Decimal d)) = inl refl
+whole_shape (Ok (Angle z)) = inl refl
+whole_shape (Ok (Date d)) = inl refl
+whole_shape (Ok (Text c)) = inl refl
+whole_shape (Err Malformed) = inl refl
+whole_shape (Err OutOfRange) = inl refl
 
 module _ (s : List ℕ) (first last n : ℕ) where
   differs-to : differs (whole_in first last s) n ≡ true → States-another s first last n

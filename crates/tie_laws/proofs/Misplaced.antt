@@ -10,20 +10,20 @@ use borrow.Author.Tests.{eq-eqb, ne_eqb}
 use Rattle.base_value.specs.declared.Value.{Value}
 use Rattle.format_layout.specs.declared.Field.{Field}
 use Rattle.format_layout.specs.declared.Form.TheVariants.{Angles}
-use Rattle.format_layout.specs.declared.Found.TheVariants.{Is}
 use Rattle.format_layout.specs.Layouts.{fields_of, field_of, label_of, no_field}
 use Rattle.format_layout.proofs.Columns.{is_in_order, front, rest}
 use Rattle.format_layout.proofs.Numbers.{numbered}
-use Rattle.card_field.specs.declared.FieldRead.TheVariants as read
 use Rattle.card_field.specs.judging.Fields.{misplaced_on}
 use Rattle.card_field.specs.Reading.{field_reading}
 use Rattle.card_check.specs.Judging.{is_coordinate}
 use Rattle.card_check.proofs.Walked.{in_order}
-use Rattle.header_check.specs.declared.Checked.TheVariants.{Accepted}
 use Rattle.header_check.specs.forms.Cards.{card_at, cards_in, layout_of, unread}
 use Rattle.header_check.specs.Refusing.{refusal_of}
 use Rattle.header_laws.proofs.Readings.{field-read}
 use Rattle.tie_rules.specs.Faults.{misplaced_among, misplaced, broken_on, broken}
+use Rattle.std.specs.Prelude.{Ok, Some}
+use Rattle.card_field.specs.Fields.{field_read}
+use Rattle.base_refusal.specs.Refusals.{no_refusal}
 
 module _ (s : List ℕ) where
   -- fields behind a column do not begin there
@@ -62,18 +62,18 @@ module _ (s : List ℕ) where
       (at_field (suc f.last) fs (rest b f fs t) i (omega arith))
 
   -- that of a field with a number, where it begins
-  pub misplaced-field : (k n : ℕ) (f : Field) → field_of k n ≡ Is f → misplaced_among (fields_of k) s f.first ≡ misplaced_on s f Angles
+  pub misplaced-field : (k n : ℕ) (f : Field) → field_of k n ≡ Some f → misplaced_among (fields_of k) s f.first ≡ misplaced_on s f Angles
   misplaced-field k n f e =
       let m = numbered k n f e in
       subst (λ (g : Field). misplaced_among (fields_of k) s g.first ≡ misplaced_on s g Angles) m.is
       (at_field (6 + length (label_of k)) (fields_of k) (in_order k) (n - 1) (omega (arith, m.counted, m.within)))
 
 -- In an accepted header reading a field that is no coordinate answers a value, and whether kind 6 stands at its first column
-pub misplaced-read : (h : List ℕ) → refusal_of h ≡ Accepted → (c : ℕ) → c < cards_in h → layout_of (card_at h c) < unread
-    → (n : ℕ) (f : Field) → field_of (layout_of (card_at h c)) n ≡ Is f → is_coordinate f.kind ≡ false
-    → (v : Value) × (field_reading (card_at h c) n 0 ≡ read.Is v (broken h c f.first 6))
+pub misplaced-read : (h : List ℕ) → refusal_of h ≡ no_refusal → (c : ℕ) → c < cards_in h → layout_of (card_at h c) < unread
+    → (n : ℕ) (f : Field) → field_of (layout_of (card_at h c)) n ≡ Some f → is_coordinate f.kind ≡ false
+    → (v : Value) × (field_reading (card_at h c) n 0 ≡ Ok (field_read v (broken h c f.first 6)))
 unfolding broken broken_on misplaced
 misplaced-read h a c l read_by_lem n f e o =
     let k : ℕ = layout_of (card_at h c) in
     let r = field-read h a c l k refl read_by_lem n f e o in
-    (r.0, r.1 ∙ ap (read.Is r.0) (sym (misplaced-field (card_at h c) k n f e)))
+    (r.0, r.1 ∙ ap (λ (m : Bool). Ok (field_read r.0 m)) (sym (misplaced-field (card_at h c) k n f e)))

@@ -19,19 +19,17 @@ use Rattle.format_code.specs.Codes.{byte_fits, fits_at, fits, codes, place_in, c
 use Rattle.value_text.specs.printable.Bytes.{first_bad}
 use Rattle.card_field.specs.judging.Fields.{spelling_of, value_of, held_of, judged_of}
 use Rattle.card_field.specs.needing.Needs.{columns_of, is_blank, any_second, needed_on}
-use Rattle.card_check.specs.Judging.{field_offence, filled_at, gap_offence, column_offence, label_stands, label_offence, offence_at}
-use Rattle.card_check.specs.Judging.{verdict_at as column_verdict, verdict_from, code_verdict, verdict_of}
+use Rattle.card_check.specs.Judging.{field_offence, filled_at, gap_offence, column_offence, label_stands, label_offence, offence_at, verdict_at as column_verdict, verdict_from, code_verdict, verdict_of}
 use Rattle.header_check.specs.forms.Cards.{card_at, cards_in, byte_in, layout_of}
 use Rattle.header_check.specs.forms.Forms.{form_said, only_form, states_line, line_form, form_of}
-use Rattle.header_check.specs.declared.Checked.TheVariants.{Accepted}
 use Rattle.header_check.specs.Opening.{code_number, number_before, goes_on, continues, block_end, has_line, stands_at}
-use Rattle.header_check.specs.Refusing.{readable, placed_verdict, end_verdict, verdict_at, offends}
-use Rattle.header_check.specs.Refusing.{answer_for, answer_at, cards_answer, refusal_of}
+use Rattle.header_check.specs.Refusing.{readable, placed_verdict, end_verdict, verdict_at, offends, answer_for, answer_at, cards_answer, refusal_of}
 use Rattle.tie_laws.proofs.Complete.{list_of}
 use Rattle.tie_laws.proofs.NetworkCards.{network}
 use Rattle.tie_laws.proofs.NetworkSteps.{by_cards}
+use Rattle.base_refusal.specs.Refusals.{no_refusal}
 
-pub accepted : refusal_of network ≡ Accepted
+pub accepted : refusal_of network ≡ no_refusal
 unfolding count first first_from alike part blanks unpadded leading behind value_from signed_of point_of figures_of number_held
     sign_of number_of text_end text_of leading_blank date_of present_of grid_of bound_of letter_of padded_of parts_of is_spelled angled_of
     angle_of text_reading number_in whole_reading

@@ -10,14 +10,11 @@ use Rattle.value_text.specs.text.Texts.{text_of}
 use Rattle.format_layout.specs.declared.Kind.{Kind}
 use Rattle.format_layout.specs.declared.Kind.TheVariants.{Text, Comment, Whole, Decimal, Date, Latitude, Longitude}
 use Rattle.format_layout.specs.declared.Field.{Field}
-use Rattle.format_layout.specs.declared.Found.{Found}
-use Rattle.format_layout.specs.declared.Found.TheVariants.{Is, Nothing}
 use Rattle.format_layout.specs.Table.{layouts}
 use Rattle.format_layout.specs.Layouts.{layout_at, fields_of, field_of}
 use Rattle.format_layout.specs.Names.{H00X8, H0100}
 use Rattle.card_field.specs.Reading.{field_reading, field_text}
 use Rattle.card_check.specs.Judging.{is_coordinate}
-use Rattle.header_check.specs.declared.Checked.TheVariants.{Accepted}
 use Rattle.header_check.specs.forms.Cards.{card_at, cards_in, layout_of, unread}
 use Rattle.header_check.specs.Refusing.{refusal_of}
 use Rattle.header_laws.proofs.Readings.{field_found, field-read}
@@ -27,6 +24,8 @@ use Rattle.tie_rules.specs.Readings.{number_from, number_at, whole_of, whole_rea
 use Rattle.tie_rules.proofs.key_laws.Readings.{whole-read, text-read}
 use Rattle.tie_laws.proofs.Tests.{both}
 use Rattle.tie_laws.proofs.Table.{is_whole, is_text, stands, named, is_in, every_line, lines_name_fields}
+use Rattle.std.specs.Prelude.{Option, Some, None}
+use Rattle.base_refusal.specs.Refusals.{no_refusal}
 
 -- fields of whole numbers, and of texts, have no form
 whole_so : (k : Kind) → is_whole k ≡ true → (k ≡ Whole) × (is_coordinate k ≡ false)
@@ -48,7 +47,7 @@ text_so Latitude e = absurd (false≢true e)
 text_so Longitude e = absurd (false≢true e)
 
 -- what a field that stands so is
-told : (is : Kind → Bool) (f : Field) (first last : ℕ) → stands is first last (Is f) ≡ true
+told : (is : Kind → Bool) (f : Field) (first last : ℕ) → stands is first last (Some f) ≡ true
     → (is f.kind ≡ true) × (f.first ≡ first) × (f.last ≡ last)
 told is f first last e =
     let w = (both (is f.kind) (eqb f.first first && eqb f.last last)).0 e in
@@ -81,17 +80,17 @@ line_named (t ∷ ts) r k column a =
         rw (← eqb-true t.layout k y.0) (in_named t.layout t.column t.source here)
     go false e here rest = rest
 
-module _ (h : List ℕ) (a : refusal_of h ≡ Accepted) (c : ℕ) (l : c < cards_in h) (k : ℕ) (is : layout_of (card_at h c) ≡ k) (read_by_lem : k < unread) where
+module _ (h : List ℕ) (a : refusal_of h ≡ no_refusal) (c : ℕ) (l : c < cards_in h) (k : ℕ) (is : layout_of (card_at h c) ≡ k) (read_by_lem : k < unread) where
   -- the whole number in the field that begins in a column
   pub whole_is : (first last : ℕ) → stands is_whole first last (field_of k (number_at k first)) ≡ true
       → whole_in first last (card_at h c) ≡ whole_read k first (card_at h c)
   unfolding whole_read
   whole_is first last e = go (field_of k (number_at k first)) refl e
     where
-      go : (o : Found) → field_of k (number_at k first) ≡ o → stands is_whole first last o ≡ true
+      go : (o : Option Field) → field_of k (number_at k first) ≡ o → stands is_whole first last o ≡ true
           → whole_in first last (card_at h c) ≡ whole_of (field_reading (card_at h c) (number_at k first) 0)
-      go Nothing q e = absurd (false≢true e)
-      go (Is f) q e =
+      go None q e = absurd (false≢true e)
+      go (Some f) q e =
           let w = told is_whole f first last e in
           let n : ℕ = number_at k first in
           let v = field-read h a c l k is read_by_lem n f q (whole_so f.kind w.0).1 in
@@ -104,10 +103,10 @@ module _ (h : List ℕ) (a : refusal_of h ≡ Accepted) (c : ℕ) (l : c < cards
       → text_of (between first last (card_at h c)) ≡ field_text (card_at h c) (number_at k first) 0
   text-is first last e = go (field_of k (number_at k first)) refl e
     where
-      go : (o : Found) → field_of k (number_at k first) ≡ o → stands is_text first last o ≡ true
+      go : (o : Option Field) → field_of k (number_at k first) ≡ o → stands is_text first last o ≡ true
           → text_of (between first last (card_at h c)) ≡ field_text (card_at h c) (number_at k first) 0
-      go Nothing q e = absurd (false≢true e)
-      go (Is f) q e =
+      go None q e = absurd (false≢true e)
+      go (Some f) q e =
           let w = told is_text f first last e in
           let n : ℕ = number_at k first in
           let v = field-read h a c l k is read_by_lem n f q (text_so f.kind w.0).1 in
@@ -128,7 +127,7 @@ module _ (h : List ℕ) (a : refusal_of h ≡ Accepted) (c : ℕ) (l : c < cards
   source_is nothing e = refl
 
 -- a key in whatever role is what reading answers
-pub key_is : (h : List ℕ) → refusal_of h ≡ Accepted → (c : ℕ) → c < cards_in h → layout_of (card_at h c) < unread
+pub key_is : (h : List ℕ) → refusal_of h ≡ no_refusal → (c : ℕ) → c < cards_in h → layout_of (card_at h c) < unread
     → (r : Role) (column : ℕ)
     → key_at r (card_at h c) column ≡ key_read (layout_of (card_at h c)) (line_for r (layout_of (card_at h c)) column).source (card_at h c)
 unfolding key_at line_for
@@ -137,7 +136,7 @@ key_is h a c l read_by_lem r column =
     source_is h a c l k refl read_by_lem (line_in ties r k column).source (line_named ties r k column lines_name_fields)
 
 -- and so is the number of waypoints that H00@8 states for its vessel, and that of points on H0100
-module _ (h : List ℕ) (a : refusal_of h ≡ Accepted) (c : ℕ) (l : c < cards_in h) where
+module _ (h : List ℕ) (a : refusal_of h ≡ no_refusal) (c : ℕ) (l : c < cards_in h) where
   pub line-is : layout_of (card_at h c) ≡ H00X8
       → (whole_in 30 30 (card_at h c) ≡ whole_read H00X8 30 (card_at h c)) × (whole_in 79 80 (card_at h c) ≡ whole_read H00X8 79 (card_at h c))
   unfolding layouts layout_at fields_of field_of number_from number_at

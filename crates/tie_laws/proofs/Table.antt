@@ -10,8 +10,6 @@ use Rattle.base_lists.specs.Parts.{up_to}
 use Rattle.format_layout.specs.Shape.{bytes, Layout}
 use Rattle.format_layout.specs.declared.Kind.{Kind}
 use Rattle.format_layout.specs.declared.Kind.TheVariants.{Text, Comment, Whole, Decimal, Date, Latitude, Longitude}
-use Rattle.format_layout.specs.declared.Found.{Found}
-use Rattle.format_layout.specs.declared.Found.TheVariants.{Is, Nothing}
 use Rattle.format_layout.specs.Table.{layouts, passed_codes}
 use Rattle.format_layout.specs.Layouts.{layout_at, fields_of, field_of}
 use Rattle.format_code.specs.Codes.{byte_fits, fits_at, fits, codes, place_in, code_at, code_of}
@@ -20,6 +18,8 @@ use Rattle.tie_rules.specs.Ties.{Source, digit, whole, serial, waypoint, only, a
 use Rattle.tie_rules.specs.Keys.{vessel_of}
 use Rattle.tie_rules.specs.Readings.{number_from, number_at}
 use Rattle.format_layout.specs.Names.{H00X8, H00X9, H0100, H0101, H011X, H0120, H17X0, H17X1, H21X0, H21X1, H21X2, H21X3, H22X0, H23X0, H16X1, H5000, H51X0, H52XX, H54XX}
+use Rattle.std.specs.Prelude.{Option, Some, None}
+use Rattle.format_layout.specs.declared.Field.{Field}
 
 -- the names of the layouts are those of their codes, with X for @ or #
 pub names_of : map (λ k. (layout_at k).code) (
@@ -77,9 +77,9 @@ is_text Latitude = false
 is_text Longitude = false
 
 -- a field was found, of a kind and with these columns
-abbrev pub stands : (Kind → Bool) → ℕ → ℕ → Found → Bool
-stands is first last Nothing = false
-stands is first last (Is f) = is f.kind && (eqb f.first first && eqb f.last last)
+abbrev pub stands : (Kind → Bool) → ℕ → ℕ → Option Field → Bool
+stands is first last None = false
+stands is first last (Some f) = is f.kind && (eqb f.first first && eqb f.last last)
 
 -- the columns of a key are those of fields of its kind
 abbrev pub named : ℕ → Source → Bool

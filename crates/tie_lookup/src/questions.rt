@@ -1,6 +1,6 @@
 // The question about a key, put to a header that was accepted.
+ghost use Rattle.base_refusal.specs.Refusals.{no_refusal};
 ghost use Rattle.std.specs.Prelude.{◌≡◌};
-ghost use Rattle.header_check.specs.declared.Checked.TheVariants.{Accepted};
 ghost use Rattle.header_check.specs.Refusing.{refusal_of};
 ghost use Rattle.tie_rules.specs.packed.Numbers.{packed};
 ghost use Rattle.tie_lookup.specs.questions.Questions.{is_class, key_offered, key_answer};
@@ -24,17 +24,18 @@ pub enum Defined {
     None,
     Only(usize, usize),
     Several(usize),
-    Refused(Refusal),
 }
 
 // Whether there is such a class of keys.
+#[tactic(auto, unfolding(crate::specs::questions::Questions::is_class))]
 fn is_class(class: u64) -> bool
     ensures { result ≡ is_class class }
 {
-    (1 <= class) & (class <= CLASSES)
+    (1..=CLASSES).contains(&class)
 }
 
 // An offered key as one number, 0 where no card can bear it.
+#[tactic(auto, unfolding(crate::specs::questions::Questions::key_offered))]
 fn number_of(class: u64, key: Key, text: &[u8]) -> u64
     ensures { result ≡ packed class (key_offered class key text.now) }
 {
@@ -46,21 +47,21 @@ fn number_of(class: u64, key: Key, text: &[u8]) -> u64
 }
 
 // What an accepted header says of a key of a class, or 13 where there is no such class.
-pub fn answer(header: &[u8], class: u64, key: Key, text: &[u8]) -> Defined
-    requires { refusal_of header.now ≡ Accepted }
+pub fn answer(header: &[u8], class: u64, key: Key, text: &[u8]) -> Result<Defined, Refusal>
+    requires { refusal_of header.now ≡ no_refusal }
     ensures { result ≡ key_answer header.now class key text.now }
 {
     if !is_class(class) {
-        return Defined::Refused(refuse(NO_SUCH, 0, 0));
+        return Err(refuse(NO_SUCH, 0, 0));
     }
     let found = search::in_header(header, number_of(class, key, text));
     let number = found.number;
     if number == 0 {
-        return Defined::None;
+        return Ok(Defined::None);
     }
     if number == 1 {
         let place = found.only - 1;
-        return Defined::Only(place / CARD + 1, place % CARD + 1);
+        return Ok(Defined::Only(place / CARD + 1, place % CARD + 1));
     }
-    Defined::Several(number)
+    Ok(Defined::Several(number))
 }

@@ -1,15 +1,16 @@
 -- The keys on one card. A key is a list of numbers: a whole number, the two of a pair, or the bytes of a text; no numbers, no
 -- key. Keys are equal by value, texts without the blanks behind them.
-use Rattle.std.specs.Prelude.{ℕ, ◌-◌, List, [], ◌∷◌, ◌++◌, Bool, true, false, cond, ◌&&◌, not, eqb, leb, ltb, pos, negsuc, take, drop}
+use Rattle.std.specs.Prelude.{ℕ, ◌-◌, List, [], ◌∷◌, ◌++◌, Bool, true, false, cond, ◌&&◌, not, eqb, leb, ltb, pos, negsuc, take, drop, Result, Ok, Err}
 use Rattle.base_lists.specs.Parts.{alike}
 use Rattle.value_text.specs.text.Texts.{text_of}
 use Rattle.base_value.specs.declared.Value.TheVariants.{Absent, Whole, Decimal, Angle, Date, Text}
-use Rattle.base_value.specs.declared.Reading.{Reading}
-use Rattle.base_value.specs.declared.Reading.TheVariants.{Held, Malformed, OutOfRange}
+use Rattle.base_value.specs.declared.Unread.TheVariants.{Malformed, OutOfRange}
 use Rattle.value_field.specs.declared.spelling.Spelling.TheVariants as spelled
 use Rattle.value_field.specs.spelling.Reading.{reading_of}
 use Rattle.header_check.specs.forms.Cards.{byte_in, layout_of}
 use Rattle.tie_rules.specs.Ties.{Source, digit, whole, serial, waypoint, only, allotted, nothing, Role, defines, line_for, has_vessel}
+use Rattle.base_value.specs.declared.Unread.{Unread}
+use Rattle.base_value.specs.declared.Value.{Value}
 
 -- there is no key
 unfoldable pub is_none : List ℕ → Bool
@@ -21,16 +22,16 @@ unfoldable pub between : ℕ → ℕ → List ℕ → List ℕ
 between first last s = take (last - (first - 1)) (drop (first - 1) s)
 
 -- a whole number that was read, as a key
-unfoldable pub whole_key : Reading → List ℕ
-whole_key (Held (Whole (pos n))) = n ∷ []
-whole_key (Held (Whole (negsuc n))) = []
-whole_key (Held Absent) = []
-whole_key (Held (Decimal d)) = []
-whole_key (Held (Angle z)) = []
-whole_key (Held (Date d)) = []
-whole_key (Held (Text c)) = []
-whole_key Malformed = []
-whole_key OutOfRange = []
+unfoldable pub whole_key : Result Value Unread → List ℕ
+whole_key (Ok (Whole (pos n))) = n ∷ []
+whole_key (Ok (Whole (negsuc n))) = []
+whole_key (Ok Absent) = []
+whole_key (Ok (Decimal d)) = []
+whole_key (Ok (Angle z)) = []
+whole_key (Ok (Date d)) = []
+whole_key (Ok (Text c)) = []
+whole_key (Err Malformed) = []
+whole_key (Err OutOfRange) = []
 
 -- the whole number in some columns
 unfoldable pub whole_in : ℕ → ℕ → List ℕ → List ℕ

@@ -1,6 +1,7 @@
 // The keys on one card: what its columns define and what they refer to, each key as one number, by the rows of the table of ties.
-ghost use Rattle.std.specs.Prelude.{◌≡◌, ◌-◌, ◌/◌, ◌%◌};
-ghost use Rattle.base_value.specs.declared.Reading.{Reading};
+ghost use Rattle.std.specs.Prelude.{Result, ◌≡◌, ◌-◌, ◌/◌, ◌%◌};
+ghost use Rattle.base_value.specs.declared.Unread.{Unread};
+ghost use Rattle.base_value.specs.declared.Value.{Value};
 ghost use Rattle.value_number.specs.packed.Shapes.{size_of};
 ghost use Rattle.header_check.specs.forms.Cards.{byte_in};
 ghost use Rattle.tie_rules.specs.Ties.{has_vessel};
@@ -12,8 +13,6 @@ ghost use Rattle.tie_rules.specs.packed.Rows.{class_in, column_in, definition_in
 use crate::{packing, rows};
 use value_number::shapes;
 use value_text::text;
-
-const ZERO: u8 = 48;
 
 // Stands for a code that has no vessel digit.
 pub const NO_VESSEL: u16 = 10;
@@ -93,20 +92,11 @@ pub fn only_defines(row: u64) -> bool
     row < REFERENCE
 }
 
-fn before(column: usize) -> usize
-    ensures { result ≡ column - 1 }
-{
-    if column == 0 {
-        return 0;
-    }
-    column - 1
-}
-
 // The columns of a card from one to another, as far as it has them.
 fn columns(card: &[u8], first: usize, last: usize) -> &[u8]
     ensures { result.now ≡ between first last card.now }
 {
-    let from = before(first);
+    let from = first.saturating_sub(1);
     if card.len() <= from {
         return &card[..0];
     }
@@ -121,7 +111,7 @@ fn columns(card: &[u8], first: usize, last: usize) -> &[u8]
 
 // A number counted from 1, by its size; 0 where there is none. Below zero there is no key.
 fn mark_by(size: u64) -> u64
-    ensures { (n : Reading) → size ≡ size_of n → result ≡ mark_of n }
+    ensures { (n : Result Value Unread) → size ≡ size_of n → result ≡ mark_of n }
 {
     if size < shapes::ZERO {
         return 0;
@@ -137,14 +127,12 @@ pub fn whole_in(card: &[u8], first: usize, last: usize) -> u64
 }
 
 // The digit in a column.
+#[tactic(auto, unfolding(header_check::specs::forms::Cards::byte_in))]
 fn digit_in(card: &[u8], column: usize) -> u16
     ensures { result ≡ byte_in card.now column - 48 }
 {
-    let byte = base_lists::byte_at(card, before(column));
-    if byte < ZERO {
-        return 0;
-    }
-    (byte - ZERO) as u16
+    let byte = base_lists::byte_at(card, column.saturating_sub(1));
+    u16::from(byte.saturating_sub(b'0'))
 }
 
 // Whether a layout's code has a vessel digit.

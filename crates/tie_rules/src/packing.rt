@@ -57,29 +57,20 @@ pub fn packed_both(first: u64, second: u64) -> u64
     WAYPOINTS * ROOM + first * EACH + second
 }
 
-fn wide(b: u8) -> u64
-    ensures { result ≡ b }
-{
-    b as u64
-}
-
 // The bytes of a text, seven bits each; 0 where one is not printable.
 fn bits_in(t: &[u8]) -> u64
     requires { length t.now ≤ 8 }
     ensures bits { result ≡ bits_in t.now }
 {
     let mut bits: u64 = 0;
-    let mut i = t.len();
-    while 0 < i {
-        let b = t[i - 1];
-        if b < BLANK {
+    for b in t.iter().rev() {
+        if *b < BLANK {
             return NONE;
         }
-        if LAST < b {
+        if LAST < *b {
             return NONE;
         }
-        bits = bits * 128 + wide(b);
-        i -= 1;
+        bits = bits * 128 + u64::from(*b);
     }
     bits
 }

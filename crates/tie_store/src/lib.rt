@@ -40,6 +40,7 @@ pub struct Told {
 }
 
 // The tag of an entry.
+#[tactic(auto, unfolding(crate::specs::Store::tag_at))]
 pub fn tag_of(links: &[u16; LINKS], i: usize) -> u16
     requires { i < room }
     ensures { result ≡ tag_at links.now i }
@@ -48,26 +49,22 @@ pub fn tag_of(links: &[u16; LINKS], i: usize) -> u16
 }
 
 // The bucket of a key.
+#[tactic(auto, unfolding(crate::specs::Store::bucket))]
 fn bucket_of(key: u64) -> usize
     ensures { (result ≡ bucket key) × (result < buckets) }
 {
     (key % BUCKETS as u64) as usize
 }
 
-fn wide(link: u16) -> usize
-    ensures { result ≡ link }
-{
-    link as usize
-}
-
 fn at(links: &[u16; LINKS], i: usize) -> usize
     requires { i < link_room }
     ensures { result ≡ get_or links.now i 0 }
 {
-    wide(links[i])
+    usize::from(links[i])
 }
 
 // How many entries there are.
+#[tactic(auto, unfolding(crate::specs::Store::count_in))]
 pub fn entries_in(links: &[u16; LINKS]) -> usize
     ensures { result ≡ count_in links.now }
 {
@@ -125,6 +122,7 @@ fn times_of(keys: &[u64; ROOM], links: &[u16; LINKS], key: u64) -> usize
 }
 
 // What is told where nothing has a key.
+#[tactic(auto, unfolding(crate::specs::Store::nothing_told))]
 pub fn nothing() -> Told
     ensures { result ≡ nothing_told }
 {
@@ -163,6 +161,7 @@ fn narrow(n: usize) -> u16
 }
 
 // The links of the entry n.
+#[tactic(auto, unfolding(crate::specs::Store::entry_with))]
 fn lay_entry(links: &mut [u16; LINKS], n: usize, tag: u16, times: u16, next: u16)
     requires { n < room }
     ensures { links.new ≡ entry_with links.old n tag times next }
@@ -173,6 +172,7 @@ fn lay_entry(links: &mut [u16; LINKS], n: usize, tag: u16, times: u16, next: u16
 }
 
 // The entry n as the last of its bucket, and of all.
+#[tactic(auto, unfolding(crate::specs::Store::head_with))]
 fn lay_head(links: &mut [u16; LINKS], n: usize, b: usize)
     requires { (n < room) × (b < buckets) }
     ensures { links.new ≡ head_with links.old n b }

@@ -3,16 +3,14 @@ ghost use Rattle.std.specs.Prelude.{◌≡◌, [], ◌∷◌, false, cond, ◌<�
 ghost use Rattle.base_digits.specs.digits.Figures.{is_digit, blanks};
 ghost use Rattle.value_number.specs.number.Reading.{figures_of};
 ghost use Rattle.base_value.specs.declared.Value.TheVariants.{Absent};
-ghost use Rattle.base_value.specs.declared.Reading.TheVariants.{Held, Malformed};
 ghost use Rattle.value_coordinate.specs.angle.Angles.{padded_of, is_number, units_of, parts_of, is_spelled, angled_of, angle_of};
 
 use crate::axes;
 use crate::axes::Axis;
 use base_digits::{digits, signs};
-use base_value::{Reading, Value};
+use base_value::{Unread, Value};
 use format_layout::BLANK;
-use value_number::number;
-use value_number::number::POINT;
+use value_number::number::{Figures, POINT};
 
 // The columns of an angle.
 pub const WIDTH: usize = 12;
@@ -23,29 +21,29 @@ pub const LAST: usize = 11;
 // The parts of an angle, as they stand in its columns.
 #[derive(Clone, Copy)]
 pub struct Parts {
-    pub degrees: number::Figures,
-    pub minutes: number::Figures,
-    pub seconds: number::Figures,
-    pub thousandths: number::Figures,
+    pub degrees: Option<Figures>,
+    pub minutes: Option<Figures>,
+    pub seconds: Option<Figures>,
+    pub thousandths: Option<Figures>,
 }
 
 // Whether there are digits.
-fn is_number(figures: number::Figures) -> bool
+fn is_number(figures: Option<Figures>) -> bool
     ensures { result ≡ is_number figures }
 {
     match figures {
-        number::Figures::Not => false,
-        number::Figures::Units(_, _) => true,
+        None => false,
+        Some(_) => true,
     }
 }
 
 // What the digits are worth.
-fn units(figures: number::Figures) -> u64
+fn units(figures: Option<Figures>) -> u64
     ensures { result ≡ units_of figures }
 {
     match figures {
-        number::Figures::Not => 0,
-        number::Figures::Units(n, _) => n,
+        None => 0,
+        Some(figures) => figures.units,
     }
 }
 
@@ -53,40 +51,46 @@ fn units(figures: number::Figures) -> u64
 fn is_digit(b: u8) -> bool
     ensures { result ≡ is_digit b }
 {
-    (48 <= b) & (b <= 57)
+    b.is_ascii_digit()
 }
 
 // Reads two columns that blanks may pad on the left.
-fn two_columns(a: u8, b: u8) -> number::Figures
+fn two_columns(a: u8, b: u8) -> Option<Figures>
     ensures { result ≡ padded_of (a ∷ b ∷ []) }
 {
     if !is_digit(b) {
-        return number::Figures::Not;
+        return None;
     }
     if a == BLANK {
-        return number::Figures::Units((b - 48) as u64, 0);
+        return Some(Figures {
+            units: (b - 48) as u64,
+            places: 0,
+        });
     }
     if !is_digit(a) {
-        return number::Figures::Not;
+        return None;
     }
-    number::Figures::Units((a - 48) as u64 * 10 + (b - 48) as u64, 0)
+    Some(Figures {
+        units: (a - 48) as u64 * 10 + (b - 48) as u64,
+        places: 0,
+    })
 }
 
 // Reads three columns that nothing pads.
-fn three_digits(a: u8, b: u8, c: u8) -> number::Figures
+fn three_digits(a: u8, b: u8, c: u8) -> Option<Figures>
     ensures { result ≡ figures_of false (a ∷ b ∷ c ∷ []) }
 {
     if !((is_digit(a) & is_digit(b)) & is_digit(c)) {
-        return number::Figures::Not;
+        return None;
     }
-    number::Figures::Units(
-        ((a - 48) as u64 * 10 + (b - 48) as u64) * 10 + (c - 48) as u64,
-        0,
-    )
+    Some(Figures {
+        units: ((a - 48) as u64 * 10 + (b - 48) as u64) * 10 + (c - 48) as u64,
+        places: 0,
+    })
 }
 
 // Reads three columns that blanks may pad on the left.
-fn three_columns(a: u8, b: u8, c: u8) -> number::Figures
+fn three_columns(a: u8, b: u8, c: u8) -> Option<Figures>
     ensures { result ≡ padded_of (a ∷ b ∷ c ∷ []) }
 {
     if a == BLANK {
@@ -127,7 +131,7 @@ fn is_spelled(axis: Axis, p: Parts, point: u8, last: u8) -> bool
 }
 
 // The angle that the parts make.
-fn judged(axis: Axis, minus: bool, p: Parts) -> Reading
+fn judged(axis: Axis, minus: bool, p: Parts) -> Result<Value, Unread>
     requires { (units_of p.degrees < 1000) × (units_of p.thousandths < 1000) }
     ensures { result ≡ angled_of axis minus p }
 {
@@ -138,30 +142,30 @@ fn judged(axis: Axis, minus: bool, p: Parts) -> Reading
     let minutes = units(m);
     let seconds = units(s);
     if 60 <= minutes {
-        return Reading::OutOfRange;
+        return Err(Unread::OutOfRange);
     }
     if 60 <= seconds {
-        return Reading::OutOfRange;
+        return Err(Unread::OutOfRange);
     }
     let n = ((units(d) * 60 + minutes) * 60 + seconds) * 1000 + units(t);
     if axes::bound(axis) < n {
-        return Reading::OutOfRange;
+        return Err(Unread::OutOfRange);
     }
-    Reading::Held(Value::Angle(signs::signed(minus, n)))
+    Ok(Value::Angle(signs::signed(minus, n)))
 }
 
 // What columns hold that are no angle.
-fn unspelled(s: &[u8]) -> Reading
-    ensures { result ≡ cond (eqb (blanks s.now) (length s.now)) (Held Absent) Malformed }
+fn unspelled(s: &[u8]) -> Result<Value, Unread>
+    ensures { result ≡ cond (eqb (blanks s.now) (length s.now)) (Ok Absent) (Err Unread.Malformed) }
 {
     if digits::padding(s) == s.len() {
-        return Reading::Held(Value::Absent);
+        return Ok(Value::Absent);
     }
-    Reading::Malformed
+    Err(Unread::Malformed)
 }
 
 // Reads the angle that fills s; whether it is blank is asked only where there is none.
-pub fn read_angle(s: &[u8], axis: Axis) -> Reading
+pub fn read_angle(s: &[u8], axis: Axis) -> Result<Value, Unread>
     ensures { result ≡ angle_of axis s.now }
 {
     if s.len() != WIDTH {

@@ -7,7 +7,7 @@ use crate::angle::{LAST, WIDTH};
 use crate::axes;
 use crate::axes::Axis;
 use base_digits::signs;
-use base_refusal::Written;
+use base_refusal::Unwritten;
 use base_value::Decimal;
 use value_number::number_entry;
 
@@ -20,34 +20,34 @@ fn figures(n: u64) -> u64
 }
 
 // Writes an angle, or changes nothing where it goes too far or the columns are not twelve.
-pub fn write_angle(columns: &mut [u8], axis: Axis, angle: i64) -> Written
+pub fn write_angle(columns: &mut [u8], axis: Axis, angle: i64) -> Result<(), Unwritten>
     ensures answer { result ≡ answer_of (angle_in axis (length columns.old) angle) }
     ensures columns { columns.new ≡ entered_in (angle_in axis (length columns.old) angle) columns.old }
 {
     let n = signs::magnitude(angle);
     if axes::bound(axis) < n {
-        return Written::OutOfRange;
+        return Err(Unwritten::OutOfRange);
     }
     if columns.len() != WIDTH {
-        return Written::NoRoom;
+        return Err(Unwritten::NoRoom);
     }
     number_entry::write_plain(&mut columns[..LAST], figures(n), 3);
     columns[LAST] = axes::letter(axis, signs::below_zero(angle));
-    Written::Done
+    Ok(())
 }
 
 // Writes a grid coordinate, or changes nothing where it has no room.
-pub fn write_grid(columns: &mut [u8], axis: Axis, d: Decimal) -> Written
+pub fn write_grid(columns: &mut [u8], axis: Axis, d: Decimal) -> Result<(), Unwritten>
     ensures answer { result ≡ answer_of (grid_in axis (length columns.old) d) }
     ensures columns { columns.new ≡ entered_in (grid_in axis (length columns.old) d) columns.old }
 {
     if columns.len() == 0 {
-        return Written::NoRoom;
+        return Err(Unwritten::NoRoom);
     }
     let last = columns.len() - 1;
     if !number_entry::write_decimal(&mut columns[..last], d) {
-        return Written::NoRoom;
+        return Err(Unwritten::NoRoom);
     }
     columns[last] = axes::letter(axis, false);
-    Written::Done
+    Ok(())
 }

@@ -5,32 +5,30 @@ ghost use Rattle.value_coordinate.specs.grid.Grid.{present_of, grid_of};
 use crate::axes;
 use crate::axes::Axis;
 use base_digits::digits;
-use base_value::{Reading, Value};
+use base_value::{Unread, Value};
 use value_number::number;
 
 // A number that has to be there.
-fn present(found: Reading) -> Reading
+#[tactic(auto, unfolding(crate::specs::grid::Grid::present_of))]
+fn present(found: Result<Value, Unread>) -> Result<Value, Unread>
     ensures { result ≡ present_of found }
 {
-    let Reading::Held(v) = found else {
-        return found;
-    };
-    if let Value::Absent = v {
-        return Reading::Malformed;
+    match found {
+        Ok(Value::Absent) => Err(Unread::Malformed),
+        _ => found,
     }
-    found
 }
 
 // Reads the grid coordinate that fills s.
-pub fn read_grid(s: &[u8], axis: Axis) -> Reading
+pub fn read_grid(s: &[u8], axis: Axis) -> Result<Value, Unread>
     ensures { result ≡ grid_of axis s.now }
 {
     if digits::padding(s) == s.len() {
-        return Reading::Held(Value::Absent);
+        return Ok(Value::Absent);
     }
     let last = s.len() - 1;
     if s[last] != axes::letter(axis, false) {
-        return Reading::Malformed;
+        return Err(Unread::Malformed);
     }
     present(number::read_number(&s[..last], true))
 }

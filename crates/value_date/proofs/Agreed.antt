@@ -16,8 +16,9 @@ use Rattle.value_date.specs.Calendar.{is_date}
 use Rattle.value_date.specs.Dates.{number_of, parts_of, dated_of, date_of, date_in}
 use Rattle.base_value.specs.declared.Date.{Date}
 use Rattle.base_value.specs.declared.Value.TheVariants as value
-use Rattle.base_value.specs.declared.Reading.TheVariants.{Held, Malformed, OutOfRange}
+use Rattle.base_value.specs.declared.Unread.TheVariants.{Malformed, OutOfRange}
 use Rattle.value_date.proofs.Filled.{value_digits}
+use Rattle.std.specs.Prelude.{Ok, Err}
 
 -- eight digits are those of their number's parts
 same_digits : (s : List ℕ) → eqb (length s) 8 ≡ true → all_digits s ≡ true → digits 8 (number_of (parts_of (value_from 0 s))) ≡ s
@@ -28,12 +29,12 @@ same_digits s w a =
     let e : number_of (parts_of n) ≡ n = omega arith in
     rw e (ap (λ k. digits k n) (sym l ∙ sym (zero-add (length s))) ∙ value_digits 0 0 s (eqb-true (length (leading s)) (length s) a))
 
-pub date-agreed : (s : List ℕ) (d : Date) → date_of s ≡ Held (value.Date d) → date_in (length s) d ≡ agreed s
+pub date-agreed : (s : List ℕ) (d : Date) → date_of s ≡ Ok (value.Date d) → date_in (length s) d ≡ agreed s
 unfolding date_of dated_of date_in
 date-agreed s d h = go (eqb (blanks s) (length s)) (eqb (length s) 8) refl (all_digits s) refl (is_date (parts_of (value_from 0 s))) refl h
   where
     go : (a b : Bool) → eqb (length s) 8 ≡ b → (c : Bool) → all_digits s ≡ c → (k : Bool) → is_date (parts_of (value_from 0 s)) ≡ k
-        → cond a (Held value.Absent) (cond (b && c) (cond k (Held (value.Date (parts_of (value_from 0 s)))) OutOfRange) Malformed) ≡ Held (value.Date d)
+        → cond a (Ok value.Absent) (cond (b && c) (cond k (Ok (value.Date (parts_of (value_from 0 s)))) (Err OutOfRange)) (Err Malformed)) ≡ Ok (value.Date d)
         → date_in (length s) d ≡ agreed s
     go true b p c q k r e = cc
     go false false p c q k r e = cc

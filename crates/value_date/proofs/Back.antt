@@ -7,20 +7,19 @@ use mathlib.Core.Bool.{Bool, true, false, cond, ◌&&◌}
 use lib.ListN.{length}
 use lib.Dec.{eqb, leb}
 use borrow.Author.Tests.{eq-eqb, ne_eqb, leb-true, eqb-true}
-use Rattle.base_refusal.specs.declared.Written.TheVariants.{OutOfRange as Outside, NoRoom}
+use Rattle.base_refusal.specs.declared.Unwritten.TheVariants.{OutOfRange as Outside, NoRoom}
 use Rattle.base_digits.specs.digits.Figures.{blanks, leading, value_from}
 use Rattle.base_digits.specs.digits.Digits.{digits}
 use Rattle.base_digits.specs.digits.Columns.{agreed, refused}
 use Rattle.base_digits.proofs.digits.Bools.{and_left, and_right}
-use Rattle.base_digits.proofs.digits.Numbers.{digits_value}
+use Rattle.base_digits.proofs.digits.Numbers.{digits_value, no_blanks}
 use Rattle.base_digits.proofs.digits.Spell.{digits-length}
 use Rattle.value_date.specs.Calendar.{is_leap, is_short, days_in, is_date}
 use Rattle.value_date.specs.Dates.{number_of, parts_of, dated_of, date_of, date_in}
 use Rattle.base_value.specs.declared.Date.{Date}
 use Rattle.base_value.specs.declared.Value.TheVariants as value
-use Rattle.base_value.specs.declared.Reading.TheVariants.{Held}
 use Rattle.value_date.proofs.Filled.{digits_fill}
-use Rattle.base_digits.proofs.digits.Numbers.{no_blanks}
+use Rattle.std.specs.Prelude.{Ok}
 
 days_most : (year month : ℕ) → days_in year month ≤ 31
 unfolding days_in
@@ -56,7 +55,7 @@ parts_back d h =
     same : {y m k : ℕ} → y ≡ d.year → m ≡ d.month → k ≡ d.day → ◌≡◌ {A = Date} (record { year = y; month = m; day = k }) d
     same p q r = λ i. record { year = p i; month = q i; day = r i }
 
-read_back : (d : Date) → is_date d ≡ true → date_of (digits 8 (number_of d)) ≡ Held (value.Date d)
+read_back : (d : Date) → is_date d ≡ true → date_of (digits 8 (number_of d)) ≡ Ok (value.Date d)
 unfolding date_of dated_of
 read_back d h =
     let t = digits 8 (number_of d) in
@@ -64,12 +63,12 @@ read_back d h =
     let z : blanks t ≡ 0 = no_blanks t (digits_fill 8 (number_of d)) (omega arith) in
     rw (ne_eqb (blanks t) (length t) (λ q. omega arith), eq-eqb (length t) 8 l, eq-eqb (length (leading t)) (length t) (digits_fill 8 (number_of d)), parts_back d h, h)
 
-pub date_back : (w : ℕ) (d : Date) (t : List ℕ) → date_in w d ≡ agreed t → (date_of t ≡ Held (value.Date d)) × (length t ≡ w)
+pub date_back : (w : ℕ) (d : Date) (t : List ℕ) → date_in w d ≡ agreed t → (date_of t ≡ Ok (value.Date d)) × (length t ≡ w)
 unfolding date_in
 date_back w d t h = go (is_date d) refl (eqb w 8) refl h
   where
     go : (a : Bool) → is_date d ≡ a → (b : Bool) → eqb w 8 ≡ b
-        → cond a (cond b (agreed (digits 8 (number_of d))) (refused NoRoom)) (refused Outside) ≡ agreed t → (date_of t ≡ Held (value.Date d)) × (length t ≡ w)
+        → cond a (cond b (agreed (digits 8 (number_of d))) (refused NoRoom)) (refused Outside) ≡ agreed t → (date_of t ≡ Ok (value.Date d)) × (length t ≡ w)
     go true p true q e =
         let s : digits 8 (number_of d) ≡ t = cc in
         (rw s at (read_back d p), rw s at (digits-length 8 (number_of d)) ∙ sym (eqb-true w 8 q))

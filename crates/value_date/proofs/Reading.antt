@@ -8,7 +8,7 @@ use lib.ListN.{length}
 use lib.Dec.{eqb}
 use borrow.Author.Tests.{eq-eqb, ne_eqb}
 use Rattle.base_digits.specs.declared.digits.Run.{Run}
-use Rattle.base_refusal.specs.declared.Written.TheVariants.{OutOfRange as Outside, NoRoom}
+use Rattle.base_refusal.specs.declared.Unwritten.TheVariants.{OutOfRange as Outside, NoRoom}
 use Rattle.base_digits.specs.digits.Figures.{blanks, leading, value_from, run_of}
 use Rattle.base_digits.specs.digits.Digits.{digits}
 use Rattle.base_digits.specs.digits.Columns.{agreed, refused}
@@ -18,10 +18,11 @@ use Rattle.value_date.specs.Calendar.{is_date}
 use Rattle.value_date.specs.Dates.{number_of, parts_of, dated_of, date_of, date_in}
 use Rattle.base_value.specs.declared.Date.{Date}
 use Rattle.base_value.specs.declared.Value.TheVariants as value
-use Rattle.base_value.specs.declared.Reading.TheVariants.{Held, Malformed, OutOfRange}
+use Rattle.base_value.specs.declared.Unread.TheVariants.{Malformed, OutOfRange}
+use Rattle.std.specs.Prelude.{Ok, Err}
 
 module _ (s : List ℕ) (at : ℕ) (e : at ≡ blanks s) where
-  pub date_absent : at ≡ length s → Held value.Absent ≡ date_of s
+  pub date_absent : at ≡ length s → Ok value.Absent ≡ date_of s
   unfolding date_of
   date_absent h = rw (eq-eqb (blanks s) (length s) (sym e ∙ h))
 
@@ -29,7 +30,7 @@ module _ (s : List ℕ) (at : ℕ) (e : at ≡ blanks s) where
     some_present : eqb (blanks s) (length s) ≡ false
     some_present = ne_eqb (blanks s) (length s) (λ q. present (e ∙ q))
 
-    pub date-width : (length s ≡ 8 → ⊥) → Malformed ≡ date_of s
+    pub date-width : (length s ≡ 8 → ⊥) → (Err Malformed) ≡ date_of s
     unfolding date_of
     date-width h = rw (some_present, ne_eqb (length s) 8 h)
 
@@ -37,7 +38,7 @@ module _ (s : List ℕ) (at : ℕ) (e : at ≡ blanks s) where
       count-is : r.count ≡ length (leading s)
       count-is = ap (λ (x : Run). x.count) q
 
-      pub date-other : (r.count ≡ 8 → ⊥) → Malformed ≡ date_of s
+      pub date-other : (r.count ≡ 8 → ⊥) → (Err Malformed) ≡ date_of s
       unfolding date_of
       date-other h =
           rw (some_present, eq-eqb (length s) 8 wide, ne_eqb (length (leading s)) (length s) (λ p. h (count-is ∙ p ∙ wide)))
@@ -63,11 +64,11 @@ module _ (s : List ℕ) (at : ℕ) (e : at ≡ blanks s) where
 
 -- a date, and none
 module _ (d : Date) (b : Bool) (e : b ≡ is_date d) where
-  pub dated_held : b ≡ true → Held (value.Date d) ≡ dated_of d
+  pub dated_held : b ≡ true → Ok (value.Date d) ≡ dated_of d
   unfolding dated_of
   dated_held h = rw (← e, h)
 
-  pub dated_outside : b ≡ false → OutOfRange ≡ dated_of d
+  pub dated_outside : b ≡ false → (Err OutOfRange) ≡ dated_of d
   unfolding dated_of
   dated_outside h = rw (← e, h)
 

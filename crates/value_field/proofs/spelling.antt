@@ -1,4 +1,3 @@
-pub mod Ways
 pub mod OneKind
 pub mod Standing
 pub mod Absence

@@ -1,4 +1,3 @@
-pub mod Ways
 pub mod Back
 pub mod Agreed
 pub mod Printed

@@ -1,8 +1,8 @@
 // One field's columns: what stands there, by each of the paper's spellings.
 ghost use Rattle.std.specs.Prelude.{◌≡◌};
-ghost use Rattle.value_field.specs.spelling.Reading.{text_reading, number_in, pushed_left, whole_reading, reading_of, is_number, misplaced_in, is_text, text_read};
+ghost use Rattle.value_field.specs.spelling.Reading.{text_reading, number_in, pushed_left, whole_reading, reading_of, misplaced_in, text_read};
 
-use base_value::{Columns, Reading, Value};
+use base_value::{Columns, Unread, Value};
 use value_coordinate::axes::Axis;
 use value_coordinate::{angle, grid};
 use value_number::number;
@@ -24,49 +24,51 @@ pub enum Spelling {
 }
 
 // Reads a text; lead says whether it may begin with a blank.
-fn text_in(s: &[u8], lead: bool) -> Reading
+#[tactic(auto, unfolding(crate::specs::spelling::Reading::text_reading))]
+fn text_in(s: &[u8], lead: bool) -> Result<Value, Unread>
     ensures { result ≡ text_reading lead s.now }
 {
     let last = text::text_end(s);
     if last == 0 {
-        return Reading::Held(Value::Absent);
+        return Ok(Value::Absent);
     }
     if lead | !text::begins_blank(s) {
-        return Reading::Held(Value::Text(Columns { first: 1, last }));
+        return Ok(Value::Text(Columns { first: 1, last }));
     }
-    Reading::Malformed
+    Err(Unread::Malformed)
 }
 
 // Reads a number, which blanks may follow; pointed says whether a point may stand in it.
-fn number_in(s: &[u8], pointed: bool) -> Reading
+#[tactic(auto, unfolding(crate::specs::spelling::Reading::number_in))]
+fn number_in(s: &[u8], pointed: bool) -> Result<Value, Unread>
     ensures { result ≡ number_in pointed s.now }
 {
     number::read_number(text::stretch(s), pointed)
 }
 
 // Whether blanks follow what stands in some columns.
+#[tactic(auto, unfolding(crate::specs::spelling::Reading::pushed_left))]
 pub fn pushed_left(s: &[u8]) -> bool
     ensures { result ≡ pushed_left s.now }
 {
     let end = text::text_end(s);
-    (0 < end) & (end < s.len())
+    0 < end && end < s.len()
 }
 
 // A number as a whole number; what is no number stays as it is.
-fn whole_of(r: Reading) -> Reading
+#[tactic(auto, unfolding(crate::specs::spelling::Reading::whole_reading))]
+fn whole_of(r: Result<Value, Unread>) -> Result<Value, Unread>
     ensures { result ≡ whole_reading r }
 {
-    let Reading::Held(v) = r else {
-        return r;
-    };
-    if let Value::Decimal(d) = v {
-        return Reading::Held(Value::Whole(d.units));
+    match r {
+        Ok(Value::Decimal(d)) => Ok(Value::Whole(d.units)),
+        _ => r,
     }
-    r
 }
 
 // Reads what stands in a field's columns.
-pub fn read(s: &[u8], spelling: Spelling) -> Reading
+#[tactic(auto, unfolding(crate::specs::spelling::Reading::reading_of))]
+pub fn read(s: &[u8], spelling: Spelling) -> Result<Value, Unread>
     ensures { result ≡ reading_of spelling s.now }
 {
     match spelling {
@@ -82,48 +84,20 @@ pub fn read(s: &[u8], spelling: Spelling) -> Reading
     }
 }
 
-// Whether blanks may follow what is spelled so.
-fn is_number(spelling: Spelling) -> bool
-    ensures { result ≡ is_number spelling }
-{
-    match spelling {
-        Spelling::Text => false,
-        Spelling::Comment => false,
-        Spelling::Whole => true,
-        Spelling::Decimal => true,
-        Spelling::Date => false,
-        Spelling::Latitude => false,
-        Spelling::Longitude => false,
-        Spelling::Northing => false,
-        Spelling::Easting => false,
-    }
-}
-
 // Whether a field's columns hold a number that is misplaced.
+#[tactic(auto, unfolding(crate::specs::spelling::Reading::misplaced_in))]
 pub fn is_misplaced(s: &[u8], spelling: Spelling) -> bool
     ensures { result ≡ misplaced_in spelling s.now }
 {
-    if !is_number(spelling) {
-        return false;
-    }
-    pushed_left(s)
-}
-
-// Whether a reading is a text.
-fn is_text(r: Reading) -> bool
-    ensures { result ≡ is_text r }
-{
-    let Reading::Held(v) = r else {
-        return false;
-    };
-    if let Value::Text(_) = v { true } else { false }
+    matches!(spelling, Spelling::Whole | Spelling::Decimal) && pushed_left(s)
 }
 
 // The text in a field's columns as the caller's own memory, empty where there is none.
+#[tactic(auto, unfolding(crate::specs::spelling::Reading::text_read, crate::specs::spelling::Reading::is_text))]
 pub fn text_of(s: &[u8], spelling: Spelling) -> &[u8]
     ensures { result.now ≡ text_read spelling s.now }
 {
-    if is_text(read(s, spelling)) {
+    if matches!(read(s, spelling), Ok(Value::Text(_))) {
         return text::stretch(s);
     }
     &s[..0]

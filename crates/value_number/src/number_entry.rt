@@ -1,21 +1,11 @@
 // Whole numbers and decimals written into columns of any width, in the one agreed spelling.
-ghost use Rattle.std.specs.Prelude.{◌≡◌, ◌+◌, ◌-◌, ◌≤◌, ◌<◌, max, length};
+ghost use Rattle.std.specs.Prelude.{◌≡◌, ◌+◌, ◌-◌, ◌≤◌, ◌<◌, length};
 ghost use Rattle.base_digits.specs.digits.Columns.{right_adjusted, fits, written};
 ghost use Rattle.value_number.specs.number_entry.Spelling.{sign_columns, point_columns, pointed, plain_in, spelled, units_in, decimal_in};
 
 use crate::number::{MINUS, POINT};
-use base_digits::{digits, filling, signs};
+use base_digits::{digits, filling};
 use base_value::Decimal;
-
-// The larger of two.
-fn more(a: usize, b: usize) -> usize
-    ensures { result ≡ max a b }
-{
-    if a < b {
-        return b;
-    }
-    a
-}
 
 // Fills the columns with the digits of n and a point at place k.
 fn write_pointed(columns: &mut [u8], n: u64, k: usize)
@@ -57,27 +47,13 @@ fn write_signed(columns: &mut [u8], minus: bool, n: u64, p: usize, k: usize)
     write_plain(columns, n, p);
 }
 
-// The columns that the sign takes.
-fn sign_columns(minus: bool) -> usize
-    ensures found { result ≡ sign_columns minus }
-    ensures within { result ≤ 1 }
-{
-    if minus {
-        return 1;
-    }
-    0
-}
-
 // The columns that the point and its digits take.
 fn point_columns(p: usize) -> usize
     requires { p < 9223372036854775808 }
     ensures found { result ≡ point_columns p }
     ensures within { result ≤ p + 1 }
 {
-    if p == 0 {
-        return 0;
-    }
-    p + 1
+    if p == 0 { 0 } else { p + 1 }
 }
 
 // Writes a number with k digits before the point, right adjusted, if it fits.
@@ -86,7 +62,7 @@ fn spell(columns: &mut [u8], minus: bool, n: u64, p: usize, k: usize) -> bool
     ensures answer { result ≡ fits (right_adjusted (length columns.old) (spelled minus k p n)) }
     ensures columns { columns.new ≡ written (right_adjusted (length columns.old) (spelled minus k p n)) columns.old }
 {
-    let w = sign_columns(minus) + (k + point_columns(p));
+    let w = usize::from(minus) + (k + point_columns(p));
     if columns.len() < w {
         return false;
     }
@@ -103,11 +79,11 @@ fn write_units(columns: &mut [u8], minus: bool, n: u64, p: usize) -> bool
     ensures columns { columns.new ≡ written (units_in (length columns.old) minus p n) columns.old }
 {
     let size = filling::size_of(n);
-    let full = more(size, p + 1) - p;
+    let full = size.max(p + 1) - p;
     if spell(columns, minus, n, p, full) {
         return true;
     }
-    let least = more(size, p) - p;
+    let least = size.max(p) - p;
     spell(columns, minus, n, p, least)
 }
 
@@ -117,12 +93,12 @@ pub fn write_decimal(columns: &mut [u8], d: Decimal) -> bool
     ensures columns { columns.new ≡ written (decimal_in (length columns.old) d) columns.old }
 {
     let p = d.places;
-    let n = signs::magnitude(d.units);
+    let n = d.units.unsigned_abs();
     if digits::LIMIT <= n {
         return false;
     }
     if columns.len() < p {
         return false;
     }
-    write_units(columns, signs::below_zero(d.units), n, p)
+    write_units(columns, d.units < 0, n, p)
 }

@@ -6,8 +6,7 @@ ghost use Rattle.value_number.specs.number.Reading.{figures_of, number_of};
 ghost use Rattle.value_number.specs.packed.Shapes.{is_units, mark_in, size_by, size_of};
 ghost use Rattle.base_value.specs.Reading.{offence_of};
 
-use crate::number;
-use crate::number::{MINUS, POINT};
+use crate::number::{self, MINUS, POINT};
 use base_digits::digits;
 use base_refusal::{MALFORMED, MISSING};
 
@@ -30,18 +29,7 @@ fn run_of(t: &[u8]) -> usize
     ensures found { result ≡ length (leading t.now) }
     ensures within { result ≤ length t.now }
 {
-    let mut i = 0;
-    while i < t.len() {
-        let b = t[i];
-        if b < 48 {
-            return i;
-        }
-        if 57 < b {
-            return i;
-        }
-        i += 1;
-    }
-    i
+    t.iter().take_while(|b| b.is_ascii_digit()).count()
 }
 
 // Whether an unsigned decimal fills t.
@@ -57,10 +45,7 @@ fn is_decimal(t: &[u8]) -> bool
     }
     let rest = &t[a + 1..];
     let b = run_of(rest);
-    if b != rest.len() {
-        return false;
-    }
-    a + b != 0
+    b == rest.len() && a + b != 0
 }
 
 // The whole number that fills t, counted from 1; 0 where there is none.
@@ -68,26 +53,21 @@ fn mark_of(t: &[u8]) -> u64
     ensures mark { result ≡ mark_in (figures_of false t.now) }
     ensures within { result ≤ limit + 1 }
 {
-    let mut n: u64 = 0;
-    let mut i = 0;
-    while i < t.len() {
-        let b = t[i];
-        if b < 48 {
+    let mut n = 0;
+    for &b in t {
+        if !b.is_ascii_digit() {
             return 0;
         }
-        if 57 < b {
-            return 0;
-        }
-        n = digits::cap(n * 10 + ((b - 48) as u64));
-        i += 1;
+        n = digits::cap(n * 10 + u64::from(b - b'0'));
     }
-    if i == 0 {
+    if t.is_empty() {
         return 0;
     }
     n + 1
 }
 
 // A size by the number counted from 1, and whether a minus stands before it.
+#[tactic(auto, unfolding(crate::specs::packed::Shapes::size_by))]
 fn size_by(minus: bool, mark: u64) -> u64
     ensures { (result ≡ size_by minus mark) × (result ≤ limit + 3) }
 {
@@ -97,7 +77,7 @@ fn size_by(minus: bool, mark: u64) -> u64
     if digits::LIMIT < mark {
         return LARGE;
     }
-    if minus & (mark != 1) {
+    if minus && mark != 1 {
         return BELOW;
     }
     mark + 3

@@ -1,6 +1,6 @@
 // The bytes that may stand on a card: the place of the first that may not.
-ghost use Rattle.std.specs.Prelude.{◌≡◌, ◌<◌, length};
-ghost use Rattle.value_text.specs.printable.Bytes.{good_at, first_bad};
+ghost use Rattle.std.specs.Prelude.{◌≡◌, ◌&&◌, leb};
+ghost use Rattle.value_text.specs.printable.Bytes.{first_bad};
 ghost use Rattle.value_text.specs.packed.Rows.{good_card};
 
 use format_layout::{BLANK, CARD};
@@ -9,12 +9,10 @@ use format_layout::{BLANK, CARD};
 pub const LAST: u8 = 126;
 
 // Whether a byte is printable.
-fn good_at(s: &[u8], i: usize) -> bool
-    requires { i < length s.now }
-    ensures { result ≡ good_at s.now i }
+pub(crate) fn is_printable(b: u8) -> bool
+    ensures { result ≡ (leb 32 b && leb b 126) }
 {
-    let b = s[i];
-    (BLANK <= b) & (b <= LAST)
+    matches!(b, BLANK..=LAST)
 }
 
 // Whether a card is whole and all its bytes printable, looked at in five rows of sixteen: no byte ends the loop early, so that
@@ -26,12 +24,10 @@ fn all_good(s: &[u8]) -> bool
         return false;
     }
     let mut good = true;
-    let mut i = 0;
-    while i < 16 {
-        let first = good_at(s, i) & good_at(s, i + 16);
-        let next = good_at(s, i + 32) & good_at(s, i + 48);
-        good = good & (first & next & good_at(s, i + 64));
-        i += 1;
+    for i in 0..16 {
+        let first = is_printable(s[i]) & is_printable(s[i + 16]);
+        let next = is_printable(s[i + 32]) & is_printable(s[i + 48]);
+        good &= first & next & is_printable(s[i + 64]);
     }
     good
 }
@@ -43,16 +39,5 @@ pub fn first_bad(s: &[u8]) -> usize
     if all_good(s) {
         return CARD;
     }
-    let mut i = 0;
-    while i < s.len() {
-        let b = s[i];
-        if b < BLANK {
-            return i;
-        }
-        if LAST < b {
-            return i;
-        }
-        i += 1;
-    }
-    i
+    s.iter().position(|b| !is_printable(*b)).unwrap_or(s.len())
 }

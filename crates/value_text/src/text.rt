@@ -9,30 +9,21 @@ pub fn text_end(s: &[u8]) -> usize
     ensures found { result ≡ text_end s.now }
     ensures within { result ≤ length s.now }
 {
-    let mut i = s.len();
-    while 0 < i {
-        if s[i - 1] != BLANK {
-            return i;
-        }
-        i -= 1;
-    }
-    i
+    s.len() - s.iter().rev().take_while(|b| **b == BLANK).count()
 }
 
 // The text itself, as the caller's own memory.
+#[tactic(auto, unfolding(crate::specs::text::Texts::text_of))]
 pub fn stretch(s: &[u8]) -> &[u8]
     ensures { result.now ≡ text_of s.now }
 {
-    let end = text_end(s);
-    &s[..end]
+    &s[..text_end(s)]
 }
 
 // Whether a text begins with a blank.
+#[tactic(auto, using(crate::proofs::text::Ends::blank_none, crate::proofs::text::Ends::blank_some))]
 pub fn begins_blank(s: &[u8]) -> bool
     ensures { result ≡ leading_blank s.now }
 {
-    if s.len() == 0 {
-        return false;
-    }
-    s[0] == BLANK
+    matches!(s, [BLANK, ..])
 }

@@ -10,9 +10,7 @@ use lib.Seq.{take-append-le, drop-append-le}
 use borrow.Author.Tests.{leb-true, le-leb, lt-leb}
 use Rattle.base_digits.proofs.digits.Bools.{and_left, and_right}
 use Rattle.base_refusal.specs.declared.Refusal.{Refusal}
-use Rattle.base_refusal.specs.Refusals.{refusal}
-use Rattle.header_check.specs.declared.Checked.{Checked}
-use Rattle.header_check.specs.declared.Checked.TheVariants as checked
+use Rattle.base_refusal.specs.Refusals.{refusal, no_refusal}
 use Rattle.header_check.specs.forms.Cards.{cards_in}
 use Rattle.volume_form.specs.Rows.{Row}
 use Rattle.volume_form.specs.Marked.{name_of, sequence_of, trailer_card, count_on, start_on}
@@ -26,13 +24,13 @@ use Rattle.volume_rules.proofs.Exactly.{directory-is}
 use Rattle.volume_rules.proofs.Judging.{Sounds, sounds, accepted_volume, taken_wholes}
 use Rattle.volume_rules.proofs.Lines.{line-part, line-whole, line-within, entry_at, headers_number}
 use Rattle.volume_check.proofs.judging.Headers.{part_long}
-use Rattle.volume_check.specs.declared.Found.{Found}
-use Rattle.volume_check.specs.declared.Found.TheVariants.{Line, Refused}
-use Rattle.volume_check.specs.declared.Counted.TheVariants as counted
 use Rattle.volume_check.specs.Answers.{lines_of, found_by, placed, found_of, part_of, line_of}
 use Rattle.volume_check.specs.Steps.{told_at, inside, Trailed}
+use Rattle.std.specs.Prelude.{Result, Ok, Err, ⊤}
+use Rattle.volume_check.specs.declared.LinePlace.{LinePlace}
+use Rattle.volume_check.specs.Lines.{line_place}
 
-module _ (f : Row) (good : Good f) (n : ℕ) (buffer : List ℕ) (accepted : volume_answer f n buffer ≡ checked.Accepted) where
+module _ (f : Row) (good : Good f) (n : ℕ) (buffer : List ℕ) (accepted : volume_answer f n buffer ≡ no_refusal) where
   abbrev v : List ℕ
   v = take (80 * n) buffer
 
@@ -79,7 +77,7 @@ module _ (f : Row) (good : Good f) (n : ℕ) (buffer : List ℕ) (accepted : vol
   unfolding told_at placed
   told-placed d e first place =
       ap (λ l. told_at f l first place) e
-      ∙ ap (λ k. cond (leb 1 place && leb place k) (Line (start_on f card) (count_on f card) (first + place - 1)) (Refused (refusal 13 0 0))) k_is
+      ∙ ap (λ k. cond (leb 1 place && leb place k) (Ok (line_place (start_on f card) (count_on f card) (first + place - 1))) (Err (refusal 13 0 0))) k_is
       ∙ go (leb 1 place && leb place (length hs)) refl
     where
       card : List ℕ
@@ -89,8 +87,8 @@ module _ (f : Row) (good : Good f) (n : ℕ) (buffer : List ℕ) (accepted : vol
       k_is = omega (arith, directory_long)
 
       go : (t : Bool) → (leb 1 place && leb place (length hs)) ≡ t
-          → cond t (Line (start_on f card) (count_on f card) (first + place - 1)) (Refused (refusal 13 0 0))
-          ≡ cond t (Line (1 + before hs (place - 1)) (cards_in (get_or hs (place - 1) [])) (first + place - 1)) (Refused (refusal 13 0 0))
+          → cond t (Ok (line_place (start_on f card) (count_on f card) (first + place - 1))) (Err (refusal 13 0 0))
+          ≡ cond t (Ok (line_place (1 + before hs (place - 1)) (cards_in (get_or hs (place - 1) [])) (first + place - 1))) (Err (refusal 13 0 0))
       go false q = refl
       go true q =
           let a : 1 ≤ place = leb-true 1 place (and_left (leb 1 place) _ q) in
@@ -102,7 +100,7 @@ module _ (f : Row) (good : Good f) (n : ℕ) (buffer : List ℕ) (accepted : vol
           let x : 1 + before hs (place - 1) < 10 ^ f.width = omega (arith, l, fits) in
           let y : cards_in (get_or hs (place - 1) []) < 10 ^ f.width = omega (arith, l, fits) in
           let z : 80 ≤ length (get_or hs (place - 1) []) = omega (arith, w.some, w.whole) in
-          ap₂ (λ i j. Line i j (first + place - 1))
+          ap₂ (λ i j. Ok (line_place i j (first + place - 1)))
           (ap (start_on f) c ∙ start_entry f good _ _ x y (get_or hs (place - 1) []) z)
           (ap (count_on f) c ∙ count-entry f good _ _ x y (get_or hs (place - 1) []) z)
 
@@ -142,7 +140,7 @@ module _ (f : Row) (good : Good f) (n : ℕ) (buffer : List ℕ) (accepted : vol
   placed-inside first place = go (leb 1 place && leb place (length hs)) refl
     where
       go : (t : Bool) → (leb 1 place && leb place (length hs)) ≡ t
-          → inside (cond t (Line (1 + before hs (place - 1)) (cards_in (get_or hs (place - 1) [])) (first + place - 1)) (Refused (refusal 13 0 0))) (length buffer) ≡ true
+          → inside (cond t (Ok (line_place (1 + before hs (place - 1)) (cards_in (get_or hs (place - 1) [])) (first + place - 1))) (Err (refusal 13 0 0))) (length buffer) ≡ true
       go false q = refl
       go true q =
           let a : 1 ≤ place = leb-true 1 place (and_left (leb 1 place) _ q) in
@@ -154,7 +152,7 @@ module _ (f : Row) (good : Good f) (n : ℕ) (buffer : List ℕ) (accepted : vol
   placed-part first place = go (leb 1 place && leb place (length hs)) refl
     where
       go : (t : Bool) → (leb 1 place && leb place (length hs)) ≡ t
-          → part_of (cond t (Line (1 + before hs (place - 1)) (cards_in (get_or hs (place - 1) [])) (first + place - 1)) (Refused (refusal 13 0 0))) buffer
+          → part_of (cond t (Ok (line_place (1 + before hs (place - 1)) (cards_in (get_or hs (place - 1) [])) (first + place - 1))) (Err (refusal 13 0 0))) buffer
           ≡ cond t (get_or hs (place - 1) []) []
       go false q = refl
       go true q =
@@ -185,12 +183,12 @@ module _ (f : Row) (good : Good f) (n : ℕ) (buffer : List ℕ) (place : ℕ) w
   unfolding found_of
   found_inside = go (volume_answer f n buffer) refl
     where
-      go : (a : Checked) → volume_answer f n buffer ≡ a
+      go : (a : Result ⊤ Refusal) → volume_answer f n buffer ≡ a
           → inside (found_by a (placed (headers_of f n (take (80 * n) buffer)) (first_of f n (take (80 * n) buffer)) place)) (length buffer) ≡ true
-      go checked.Accepted e = placed-inside f good n buffer e (first_of f n (take (80 * n) buffer)) place
-      go (checked.Refused r) e = refl
+      go (Ok _) e = placed-inside f good n buffer e (first_of f n (take (80 * n) buffer)) place
+      go (Err r) e = refl
 
-  refused-line : (r : Refusal) → volume_answer f n buffer ≡ checked.Refused r → line_of f n buffer place ≡ []
+  refused-line : (r : Refusal) → volume_answer f n buffer ≡ Err r → line_of f n buffer place ≡ []
   unfolding line_of found_of
   refused-line r e = rw e
 
@@ -198,9 +196,9 @@ module _ (f : Row) (good : Good f) (n : ℕ) (buffer : List ℕ) (place : ℕ) w
   pub some-line : (length (line_of f n buffer place) ≡ 0 → ⊥) → 80 ≤ length (line_of f n buffer place)
   some-line = go (volume_answer f n buffer) refl
     where
-      go : (a : Checked) → volume_answer f n buffer ≡ a → (length (line_of f n buffer place) ≡ 0 → ⊥) → 80 ≤ length (line_of f n buffer place)
-      go checked.Accepted e z = line_long f good n buffer e place z
-      go (checked.Refused r) e z = absurd (z (ap length (refused-line r e)))
+      go : (a : Result ⊤ Refusal) → volume_answer f n buffer ≡ a → (length (line_of f n buffer place) ≡ 0 → ⊥) → 80 ≤ length (line_of f n buffer place)
+      go (Ok _) e z = line_long f good n buffer e place z
+      go (Err r) e z = absurd (z (ap length (refused-line r e)))
 
   -- of a part that is the line
   pub some-there : (l : List ℕ) → l ≡ line_of f n buffer place → (length l ≡ 0 → ⊥) → 80 ≤ length l
@@ -218,48 +216,48 @@ none_sequence [] e = refl
 none_sequence (x ∷ l) e = absurd (omega arith)
 
 -- an answer that tells cards inside the volume
-pub line-inside : (x : Found) (a k e n : ℕ) → x ≡ Line a k e → inside x n ≡ true → (1 ≤ a) × (80 * (a - 1) + 80 * k ≤ n)
+pub line-inside : (x : Result LinePlace Refusal) (a k e n : ℕ) → x ≡ Ok (line_place a k e) → inside x n ≡ true → (1 ≤ a) × (80 * (a - 1) + 80 * k ≤ n)
 line-inside x a k e n q h =
     let r : (leb 1 a && leb (80 * (a - 1) + 80 * k) n) ≡ true = sym (ap (λ y. inside y n) q) ∙ h in
     (leb-true 1 a (and_left (leb 1 a) _ r), leb-true (80 * (a - 1) + 80 * k) n (and_right (leb 1 a) _ r))
 
 -- what a directory tells at a place, by the tests of the place
 module _ (f : Row) (d : List ℕ) (first place : ℕ) where
-  pub told-zero : place ≡ 0 → Refused (refusal 13 0 0) ≡ told_at f d first place
+  pub told-zero : place ≡ 0 → Err (refusal 13 0 0) ≡ told_at f d first place
   unfolding told_at
   told-zero e = rw e
 
-  pub told_past : (place ≡ 0 → ⊥) → length d / 80 < place → Refused (refusal 13 0 0) ≡ told_at f d first place
+  pub told_past : (place ≡ 0 → ⊥) → length d / 80 < place → Err (refusal 13 0 0) ≡ told_at f d first place
   unfolding told_at
   told_past z h = rw (le-leb 1 place (omega arith), lt-leb place (length d / 80) h)
 
   pub told-there : (place ≡ 0 → ⊥) → place ≤ length d / 80 → (s k : ℕ)
       → s ≡ start_on f (take (80 * (place - 1) + 80 - 80 * (place - 1)) (drop (80 * (place - 1)) d))
       → k ≡ count_on f (take (80 * (place - 1) + 80 - 80 * (place - 1)) (drop (80 * (place - 1)) d))
-      → Line s k (first + place - 1) ≡ told_at f d first place
+      → Ok (line_place s k (first + place - 1)) ≡ told_at f d first place
   unfolding told_at
   told-there z h s k p q =
       let e = part_long (80 * (place - 1)) 80 d in
       rw (le-leb 1 place (omega arith), le-leb place (length d / 80) h)
-      (ap₂ (λ i j. Line i j (first + place - 1)) (p ∙ ap (start_on f) e) (q ∙ ap (count_on f) e))
+      (ap₂ (λ i j. Ok (line_place i j (first + place - 1))) (p ∙ ap (start_on f) e) (q ∙ ap (count_on f) e))
 
 -- the answers, by what was judged
 module _ (f : Row) (n : ℕ) (buffer : List ℕ) where
-  pub lines-counted : volume_answer f n buffer ≡ checked.Accepted → (k : ℕ) → k ≡ length (headers_of f n (take (80 * n) buffer))
-      → counted.Lines k ≡ lines_of f n buffer
+  pub lines-counted : volume_answer f n buffer ≡ no_refusal → (k : ℕ) → k ≡ length (headers_of f n (take (80 * n) buffer))
+      → Ok k ≡ lines_of f n buffer
   unfolding lines_of
-  lines-counted a k e = rw a (ap counted.Lines e)
+  lines-counted a k e = rw a (ap Ok e)
 
-  pub lines-refused : (r : Refusal) → volume_answer f n buffer ≡ checked.Refused r → counted.Refused r ≡ lines_of f n buffer
+  pub lines-refused : (r : Refusal) → volume_answer f n buffer ≡ Err r → Err r ≡ lines_of f n buffer
   unfolding lines_of
   lines-refused r a = rw a
 
   module _ (place : ℕ) where
-    pub found-placed : volume_answer f n buffer ≡ checked.Accepted → (x : Found)
+    pub found-placed : volume_answer f n buffer ≡ no_refusal → (x : Result LinePlace Refusal)
         → x ≡ placed (headers_of f n (take (80 * n) buffer)) (first_of f n (take (80 * n) buffer)) place → x ≡ found_of f n buffer place
     unfolding found_of
     found-placed a x e = rw a e
 
-    pub found-refused : (r : Refusal) → volume_answer f n buffer ≡ checked.Refused r → Refused r ≡ found_of f n buffer place
+    pub found-refused : (r : Refusal) → volume_answer f n buffer ≡ Err r → Err r ≡ found_of f n buffer place
     unfolding found_of
     found-refused r a = rw a

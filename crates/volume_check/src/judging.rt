@@ -6,48 +6,42 @@ ghost use Rattle.volume_rules.specs.Judged.{unless, stated, header_answer, heade
 ghost use Rattle.volume_check.specs.Steps.{Cards, Trailed};
 
 use crate::covering;
-use base_refusal::{NO_DIRECTORY, NO_TRAILER, TOO_MANY, refuse};
-use format_layout::{CARD, CODE};
-use header_check::Checked;
+use base_refusal::{NO_DIRECTORY, NO_TRAILER, Refusal, TOO_MANY, refuse};
+use format_layout::CARD;
 use volume_form::{Form, building, reading};
 
 // The answer to a header in a volume.
-pub fn check_header(form: Form, header: &[u8]) -> Checked
+pub fn check_header(form: Form, header: &[u8]) -> Result<(), Refusal>
     ensures { result ≡ header_answer (row_of form) header.now }
 {
     let largest = volume_form::largest_of(form);
-    if (header.len() % CARD == 0) & (largest < header.len() / CARD) {
-        return Checked::Refused(refuse(TOO_MANY, 0, 0));
+    if header.len() % CARD == 0 && largest < header.len() / CARD {
+        return Err(refuse(TOO_MANY, 0, 0));
     }
     header_check::check(header)
 }
 
 // Headers in turn: the first refusal decides.
-fn check_headers(form: Form, body: &[u8], directory: &[u8]) -> Checked
+fn check_headers(form: Form, body: &[u8], directory: &[u8]) -> Result<(), Refusal>
     requires { covers (row_of form) 1 body.now directory.now (length directory.now / 80) ≡ true }
     ensures { result
         ≡ headers_answer (row_of form) (headers_in (row_of form) body.now directory.now (length directory.now / 80)) }
 {
-    let count = directory.len() / CARD;
-    let mut at = 0;
-    let mut i = 0;
-    while i < count {
-        let from = CARD * i;
-        let n = reading::count_on(form, &directory[from..from + CARD]) as usize;
-        let start = CARD * at;
-        let end = start + CARD * n;
-        let checked = check_header(form, &body[start..end]);
-        let Checked::Accepted = checked else {
+    let mut rest = body;
+    for card in directory.chunks_exact(CARD) {
+        let n = reading::count_on(form, card) as usize;
+        let (header, behind) = rest.split_at(CARD * n);
+        let checked = check_header(form, header);
+        let Ok(()) = checked else {
             return checked;
         };
-        at += n;
-        i += 1;
+        rest = behind;
     }
-    Checked::Accepted
+    Ok(())
 }
 
 // The directory and the headers; a card of the other form comes before all else.
-fn judge_parts(form: Form, body: &[u8], directory: &[u8]) -> Checked
+fn judge_parts(form: Form, body: &[u8], directory: &[u8]) -> Result<(), Refusal>
     requires { 1 + length body.now / 80 < 10 ^ (row_of form).width }
     ensures { result
         ≡ unless (not (mixed (row_of form).other directory.now (length directory.now / 80))) 18
@@ -55,12 +49,12 @@ fn judge_parts(form: Form, body: &[u8], directory: &[u8]) -> Checked
         (headers_answer (row_of form) (headers_in (row_of form) body.now directory.now (length directory.now / 80)))) }
 {
     if covering::is_mixed(form, directory) {
-        return Checked::Refused(refuse(NO_TRAILER, 0, 0));
+        return Err(refuse(NO_TRAILER, 0, 0));
     }
     if covering::covered_by(form, body, directory) {
         return check_headers(form, body, directory);
     }
-    Checked::Refused(refuse(NO_DIRECTORY, 0, 0))
+    Err(refuse(NO_DIRECTORY, 0, 0))
 }
 
 // Whether a card is the trailer of a volume of so many cards.
@@ -76,7 +70,7 @@ fn is_trailer(form: Form, cards: u64, card: &[u8]) -> bool
         return false;
     }
     let expected = building::trailer_card(form, first, cards - first);
-    base_lists::same(card, &expected)
+    card == expected.as_slice()
 }
 
 // The last card.
@@ -126,7 +120,7 @@ fn is_trailed(form: Form, volume: &[u8], cards: usize) -> bool
 }
 
 // The cards of a volume of no more than the form allows.
-fn judge_cards(form: Form, volume: &[u8], cards: usize) -> Checked
+fn judge_cards(form: Form, volume: &[u8], cards: usize) -> Result<(), Refusal>
     requires { Cards cards volume.now × (cards ≤ (row_of form).most) }
     ensures { result ≡ cards_answer (row_of form) cards volume.now }
 {
@@ -135,7 +129,7 @@ fn judge_cards(form: Form, volume: &[u8], cards: usize) -> Checked
         let directory = directory_of(form, volume, cards);
         return judge_parts(form, body, directory);
     }
-    Checked::Refused(refuse(NO_TRAILER, 0, 0))
+    Err(refuse(NO_TRAILER, 0, 0))
 }
 
 // Whether a form allows so many cards, and a buffer of so many holds them.
@@ -143,17 +137,17 @@ pub fn is_stated(form: Form, cards: usize, room: usize) -> bool
     ensures { result ≡ stated (row_of form) cards room }
 {
     let most = volume_form::most_of(form);
-    (1 <= cards) & ((cards <= most) & (cards <= room))
+    1 <= cards && cards <= most && cards <= room
 }
 
 // A stated number of cards at the front of a buffer.
-pub fn judge(form: Form, buffer: &[u8], cards: usize) -> Checked
+pub fn judge(form: Form, buffer: &[u8], cards: usize) -> Result<(), Refusal>
     ensures { result ≡ volume_answer (row_of form) cards buffer.now }
 {
     if is_stated(form, cards, buffer.len() / CARD) {
         return judge_cards(form, &buffer[..CARD * cards], cards);
     }
-    Checked::Refused(refuse(NO_TRAILER, 0, 0))
+    Err(refuse(NO_TRAILER, 0, 0))
 }
 
 // The form that the code of the last card tells; what has no such card is judged as an old volume.
@@ -168,7 +162,7 @@ pub fn form_of(buffer: &[u8], cards: usize) -> Form
     }
     let code = volume_form::trailer_code(Form::Wide);
     let from = CARD * (cards - 1);
-    if base_lists::same(&buffer[from..from + CODE], &code) {
+    if buffer[from..].starts_with(&code) {
         return Form::Wide;
     }
     Form::Old

@@ -4,8 +4,8 @@
 pub mod covering;
 pub mod judging;
 
+ghost use Rattle.base_refusal.specs.Refusals.{no_refusal};
 ghost use Rattle.std.specs.Prelude.{◌≡◌, true, ◌+◌, ◌-◌, ◌*◌, ◌/◌, ◌≤◌, length, take, drop};
-ghost use Rattle.header_check.specs.declared.Checked.TheVariants.{Accepted};
 ghost use Rattle.volume_form.specs.Rows.{row_of};
 ghost use Rattle.volume_form.specs.Marked.{name_of, sequence_of};
 ghost use Rattle.volume_rules.specs.Sound.{first_of, headers_of};
@@ -15,64 +15,61 @@ ghost use Rattle.volume_check.specs.Steps.{told_at, inside};
 
 use base_refusal::{NO_SUCH, Refusal, refuse};
 use format_layout::CARD;
-use header_check::Checked;
 use volume_form::{Form, NAME, NAME_END, SEQUENCE, SEQUENCE_END, reading};
 
-// How many lines a volume has, or its refusal.
-#[derive(Clone, Copy)]
-pub enum Counted {
-    Lines(usize),
-    Refused(Refusal),
-}
-
-// A line's first card, how many cards it has, and its directory card, all counted from 1; or the refusal.
-#[derive(Clone, Copy)]
-pub enum Found {
-    Line(usize, usize, usize),
-    Refused(Refusal),
+// A line's first card, how many cards it has, and its directory card, all counted from 1.
+#[derive(Clone, Copy, Debug, PartialEq, Eq)]
+pub struct LinePlace {
+    pub first: usize,
+    pub cards: usize,
+    pub entry: usize,
 }
 
 // How many lines an accepted volume has.
 fn count_in(form: Form, volume: &[u8], cards: usize) -> usize
-    requires { volume_answer (row_of form) cards volume.now ≡ Accepted }
+    requires { volume_answer (row_of form) cards volume.now ≡ no_refusal }
     ensures { result ≡ length (headers_of (row_of form) cards (take (80 * cards) volume.now)) }
 {
     cards - judging::first_of(form, &volume[..CARD * cards], cards)
 }
 
 // How many lines a volume has.
-pub fn lines(volume: &[u8], cards: usize) -> Counted
+pub fn lines(volume: &[u8], cards: usize) -> Result<usize, Refusal>
     ensures { result ≡ lines_of (row_of (form_in cards volume.now)) cards volume.now }
 {
     let form = judging::form_of(volume, cards);
     let checked = judging::judge(form, volume, cards);
     match checked {
-        Checked::Accepted => Counted::Lines(count_in(form, volume, cards)),
-        Checked::Refused(r) => Counted::Refused(r),
+        Ok(()) => Ok(count_in(form, volume, cards)),
+        Err(r) => Err(r),
     }
 }
 
 // The line that a directory, which begins at a card, tells at a place.
-fn line_at(form: Form, directory: &[u8], first: usize, place: usize) -> Found
+fn line_at(form: Form, directory: &[u8], first: usize, place: usize) -> Result<LinePlace, Refusal>
     requires { first ≤ 1000000 }
     ensures { result ≡ told_at (row_of form) directory.now first place }
 {
     if place == 0 {
-        return Found::Refused(refuse(NO_SUCH, 0, 0));
+        return Err(refuse(NO_SUCH, 0, 0));
     }
     if directory.len() / CARD < place {
-        return Found::Refused(refuse(NO_SUCH, 0, 0));
+        return Err(refuse(NO_SUCH, 0, 0));
     }
     let from = CARD * (place - 1);
     let card = &directory[from..from + CARD];
     let start = reading::start_on(form, card) as usize;
     let number = reading::count_on(form, card) as usize;
-    Found::Line(start, number, first + place - 1)
+    Ok(LinePlace {
+        first: start,
+        cards: number,
+        entry: first + place - 1,
+    })
 }
 
 // The line at a place of an accepted volume.
-fn line_in(form: Form, volume: &[u8], cards: usize, place: usize) -> Found
-    requires { volume_answer (row_of form) cards volume.now ≡ Accepted }
+fn line_in(form: Form, volume: &[u8], cards: usize, place: usize) -> Result<LinePlace, Refusal>
+    requires { volume_answer (row_of form) cards volume.now ≡ no_refusal }
     ensures { result
         ≡ placed (headers_of (row_of form) cards (take (80 * cards) volume.now)) (first_of (row_of form) cards (take (80 * cards) volume.now)) place }
 {
@@ -87,14 +84,14 @@ fn line_in(form: Form, volume: &[u8], cards: usize, place: usize) -> Found
 }
 
 // Where the line at a place stands, counted from 1.
-pub fn find_line(volume: &[u8], cards: usize, place: usize) -> Found
+pub fn find_line(volume: &[u8], cards: usize, place: usize) -> Result<LinePlace, Refusal>
     ensures { result ≡ found_of (row_of (form_in cards volume.now)) cards volume.now place }
 {
     let form = judging::form_of(volume, cards);
     let checked = judging::judge(form, volume, cards);
     match checked {
-        Checked::Accepted => line_in(form, volume, cards, place),
-        Checked::Refused(r) => Found::Refused(r),
+        Ok(()) => line_in(form, volume, cards, place),
+        Err(r) => Err(r),
     }
 }
 
@@ -109,13 +106,13 @@ fn cards_from<'a>(volume: &'a [u8], first: usize, number: usize) -> &'a [u8]
 }
 
 // The part of a volume that an answer tells.
-fn part_of<'a>(volume: &'a [u8], found: Found) -> &'a [u8]
+fn part_of<'a>(volume: &'a [u8], found: Result<LinePlace, Refusal>) -> &'a [u8]
     requires { inside found (length volume.now) ≡ true }
     ensures { result.now ≡ part_of found volume.now }
 {
     match found {
-        Found::Line(first, number, _) => cards_from(volume, first, number),
-        Found::Refused(_) => &volume[..0],
+        Ok(line) => cards_from(volume, line.first, line.cards),
+        Err(_) => &volume[..0],
     }
 }
 
@@ -132,7 +129,7 @@ pub fn name<'a>(volume: &'a [u8], cards: usize, place: usize) -> &'a [u8]
     ensures { result.now ≡ name_of (line_of (row_of (form_in cards volume.now)) cards volume.now place) }
 {
     let found = line(volume, cards, place);
-    if found.len() == 0 {
+    if found.is_empty() {
         return found;
     }
     &found[NAME..NAME_END]
@@ -143,7 +140,7 @@ pub fn sequence<'a>(volume: &'a [u8], cards: usize, place: usize) -> &'a [u8]
     ensures { result.now ≡ sequence_of (line_of (row_of (form_in cards volume.now)) cards volume.now place) }
 {
     let found = line(volume, cards, place);
-    if found.len() == 0 {
+    if found.is_empty() {
         return found;
     }
     &found[SEQUENCE..SEQUENCE_END]

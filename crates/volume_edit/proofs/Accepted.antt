@@ -4,14 +4,12 @@ use native.Mathlib.Omega.{arith}
 use mathlib.Core.Path.{◌≡◌, sym, ap, ap₂, ◌∙◌}
 use mathlib.Core.Bool.{Bool, true, ◌&&◌}
 use lib.Dec.{leb}
-use borrow.Author.Tests.{leb-true}
+use borrow.Author.Tests.{leb-true, le-leb, lt-leb}
 use Rattle.base_digits.proofs.digits.Bools.{and_left}
 use mathlib.Core.List.{List, ◌++◌, append_assoc}
 use lib.ListN.{length, take, drop, replicate, length-append, length-drop, take-append-drop}
 use lib.Seq.{take_all, take_at, take-take, length-take-le, drop-append-le, take-append-le}
 use Rattle.base_refusal.specs.declared.Refusal.{Refusal}
-use Rattle.header_check.specs.declared.Checked.{Checked}
-use Rattle.header_check.specs.declared.Checked.TheVariants as checked
 use Rattle.header_check.specs.forms.Cards.{cards_in}
 use Rattle.volume_form.specs.Moved.{laid_at, moved}
 use Rattle.volume_form.specs.declared.Form.{Form}
@@ -35,8 +33,10 @@ use Rattle.volume_check.proofs.Placing.{trailed, held}
 use Rattle.volume_check.proofs.judging.Parts.{least, before_last, last_long, directory_long}
 use Rattle.volume_edit.specs.Parts.{Listed, Closes}
 use Rattle.volume_edit.proofs.convert.Steps.{parts₀}
+use Rattle.std.specs.Prelude.{Result, Err, ⊤}
+use Rattle.base_refusal.specs.Refusals.{no_refusal}
 
-module _ (f : Row) (good : Good f) (n : ℕ) (s : List ℕ) (accepted : volume_answer f n s ≡ checked.Accepted) (first : ℕ)
+module _ (f : Row) (good : Good f) (n : ℕ) (s : List ℕ) (accepted : volume_answer f n s ≡ no_refusal) (first : ℕ)
     (first-is : first ≡ first_of f n (take (80 * n) s)) where
   abbrev v : List ℕ
   v = take (80 * n) s
@@ -70,9 +70,6 @@ module _ (f : Row) (good : Good f) (n : ℕ) (s : List ℕ) (accepted : volume_a
 
   pub few_enough : n < 10 ^ f.width
   few_enough = omega (arith, tr.few, good.roomy)
-
-  pub cards_known : Rattle.volume_check.specs.Steps.Cards n (take (80 * n) s)
-  cards_known = tr.cards
 
   v_long : length v ≡ 80 * n
   v_long = tr.cards.whole
@@ -225,36 +222,40 @@ module _ (f : Row) (good : Good f) (n : ℕ) (s : List ℕ) (accepted : volume_a
         ∙ ap₂ (λ l m. compacted same_line f l m) hs_is (sym whole_is)
 
 -- whether a form holds an accepted volume, told from its directory
-pub holds-told : (f : Row) (good : Good f) (n : ℕ) (s : List ℕ) → volume_answer f n s ≡ checked.Accepted → (g : Row) (largest most : ℕ) (D : List ℕ) (t : Bool)
+pub holds-told : (f : Row) (good : Good f) (n : ℕ) (s : List ℕ) → volume_answer f n s ≡ no_refusal → (g : Row) (largest most : ℕ) (D : List ℕ) (t : Bool)
     → largest ≡ g.largest → most ≡ g.most → D ≡ directory_of f n (take (80 * n) s) → t ≡ few_on f largest D (length D / 80)
-    → (leb n most && t) ≡ holds g n (headers_of f n (take (80 * n) s))
+    → n ≤ most → t ≡ holds g n (headers_of f n (take (80 * n) s))
 unfolding holds headers_of
-holds-told f good n s accepted g largest most D t l-is m-is D-is t-is =
+holds-told f good n s accepted g largest most D t l-is m-is D-is t-is fits =
     let v : List ℕ = take (80 * n) s in
     let k : ℕ = n - first_of f n v in
     let long : length D / 80 ≡ k = let e = ap length D-is ∙ directory_long f n v (trailed f good n s accepted) in omega arith in
-    ap₂ (λ m u. leb n m && u) m-is
+    sym (ap (λ b. b && t) (le-leb n most fits)) ∙ ap₂ (λ m u. leb n m && u) m-is
     (t-is ∙ ap (few_on f largest D) long ∙ ap₂ (λ m l. few_on f m l k) l-is D-is
     ∙ few-told f g.largest 1 (body_of f n v) (directory_of f n v) k (sounds f good n s accepted).covers_well)
 
+pub held-not : (g : Row) (n most : ℕ) (hs : List (List ℕ)) → most ≡ g.most → most < n → leb n most ≡ holds g n hs
+unfolding holds
+held-not g n most hs m-is h = rw (← m-is, lt-leb n most h)
+
 -- what is said before a conversion
 module _ (f g : Row) (n : ℕ) (s : List ℕ) where
-  pub convert_good : volume_answer f n s ≡ checked.Accepted → (y : Checked)
-      → y ≡ unless (holds g n (headers_of f n (take (80 * n) s))) 21 checked.Accepted → y ≡ convert_checked f g n s
+  pub convert_good : volume_answer f n s ≡ no_refusal → (y : Result ⊤ Refusal)
+      → y ≡ unless (holds g n (headers_of f n (take (80 * n) s))) 21 no_refusal → y ≡ convert_checked f g n s
   unfolding convert_checked
   convert_good e y y_is = rw e y_is
 
-  pub convert_bad : (r : Refusal) → volume_answer f n s ≡ checked.Refused r → checked.Refused r ≡ convert_checked f g n s
+  pub convert_bad : (r : Refusal) → volume_answer f n s ≡ Err r → Err r ≡ convert_checked f g n s
   unfolding convert_checked
   convert_bad r e = rw e
 
-  pub convert_may : convert_checked f g n s ≡ checked.Accepted → (volume_answer f n s ≡ checked.Accepted) × (n ≤ g.most)
+  pub convert_may : convert_checked f g n s ≡ no_refusal → (volume_answer f n s ≡ no_refusal) × (n ≤ g.most)
   unfolding convert_checked holds
   convert_may e =
       let a = then_passed (volume_answer f n s) _ e in
-      let c = unless-passed (holds g n (headers_of f n (take (80 * n) s))) 21 checked.Accepted a.1 in
+      let c = unless-passed (holds g n (headers_of f n (take (80 * n) s))) 21 no_refusal a.1 in
       (a.0, leb-true n g.most (and_left (leb n g.most) _ c.0))
 
-pub may : (from to : Form) (n : ℕ) (s : List ℕ) → convert_checked (row_of from) (row_of to) n s ≡ checked.Accepted
-    → (volume_answer (row_of from) n s ≡ checked.Accepted) × (n < 10 ^ (row_of to).width)
+pub may : (from to : Form) (n : ℕ) (s : List ℕ) → convert_checked (row_of from) (row_of to) n s ≡ no_refusal
+    → (volume_answer (row_of from) n s ≡ no_refusal) × (n < 10 ^ (row_of to).width)
 may from to n s e = let m = convert_may (row_of from) (row_of to) n s e in (m.0, omega (arith, m.1, (good_row to).roomy))

@@ -9,9 +9,7 @@ use lib.ListN.{length, take, drop, take-append-drop}
 use lib.Seq.{drop-drop}
 use borrow.Author.Tests.{eq-eqb, ne_eqb}
 use Rattle.base_refusal.specs.declared.Refusal.{Refusal}
-use Rattle.base_refusal.specs.Refusals.{refusal}
-use Rattle.header_check.specs.declared.Checked.{Checked}
-use Rattle.header_check.specs.declared.Checked.TheVariants as checked
+use Rattle.base_refusal.specs.Refusals.{refusal, no_refusal}
 use Rattle.header_check.specs.forms.Cards.{cards_in}
 use Rattle.volume_form.specs.declared.Form.{Form}
 use Rattle.volume_form.specs.Moved.{laid_at}
@@ -30,24 +28,24 @@ use Rattle.volume_rules.proofs.Judging.{Stated, stated_so, Taken, header_taken, 
 use Rattle.volume_check.specs.Steps as steps
 use Rattle.volume_check.proofs.Placing.{trailed, held, count-is}
 use Rattle.volume_check.proofs.judging.Parts.{least, before_last}
-use Rattle.volume_edit.specs.declared.Volume.TheVariants.{Cards, Refused}
 use Rattle.volume_edit.specs.Written.{Fits, room_answer, append_checked, cards_by, append_answer, empty_answer, left_by}
+use Rattle.std.specs.Prelude.{Result, Ok, Err, ⊤}
 
 -- what is known of an append that is judged well
 pub record May (f : Row) (n : ℕ) (buffer h : List ℕ) : Type 0 where
-  pub volume : volume_answer f n buffer ≡ checked.Accepted
-  pub header : header_answer f h ≡ checked.Accepted
+  pub volume : volume_answer f n buffer ≡ no_refusal
+  pub header : header_answer f h ≡ no_refusal
   pub room : Stated f (n + cards_in h + 1) (cards_in buffer)
 
-pub may_append : (f : Row) (n : ℕ) (buffer h : List ℕ) → append_checked f n buffer h ≡ checked.Accepted → May f n buffer h
+pub may_append : (f : Row) (n : ℕ) (buffer h : List ℕ) → append_checked f n buffer h ≡ no_refusal → May f n buffer h
 unfolding append_checked room_answer
 may_append f n buffer h e =
     let a = then_passed (volume_answer f n buffer) _ e in
     let b = then_passed (header_answer f h) _ a.1 in
-    let c = unless-passed (stated f (n + cards_in h + 1) (cards_in buffer)) 20 checked.Accepted b.1 in
+    let c = unless-passed (stated f (n + cards_in h + 1) (cards_in buffer)) 20 no_refusal b.1 in
     record { volume = a.0; header = b.0; room = stated_so f (n + cards_in h + 1) (cards_in buffer) c.0 }
 
-module _ (form : Form) (n : ℕ) (buffer h : List ℕ) (may : append_checked (row_of form) n buffer h ≡ checked.Accepted) where
+module _ (form : Form) (n : ℕ) (buffer h : List ℕ) (may : append_checked (row_of form) n buffer h ≡ no_refusal) where
   abbrev f : Row
   f = row_of form
 
@@ -126,58 +124,55 @@ module _ (form : Form) (n : ℕ) (buffer h : List ℕ) (may : append_checked (ro
       ∙ ap (λ l. volume_of (row_of form) (hs ++ (h ∷ [])) ++ l) (drop-drop (80 * (length h / 80 + 1)) (80 * n) buffer ∙ ap (λ i. drop i buffer) z)
 
 -- the answers of an append, by what was judged
-module _ (f : Row) (n : ℕ) (buffer h : List ℕ) (x : Checked) (told : x ≡ append_checked f n buffer h) where
-  pub append-refused : (r : Refusal) → x ≡ checked.Refused r → (t : List ℕ) → t ≡ buffer
-      → (Refused r ≡ append_answer f n buffer h)
+module _ (f : Row) (n : ℕ) (buffer h : List ℕ) (x : Result ⊤ Refusal) (told : x ≡ append_checked f n buffer h) where
+  pub append-refused : (r : Refusal) → x ≡ Err r → (t : List ℕ) → t ≡ buffer
+      → (Err r ≡ append_answer f n buffer h)
       × (t ≡ left_by f (append_answer f n buffer h) (headers_of f n (take (80 * n) buffer) ++ (h ∷ [])) buffer)
   unfolding append_answer
   append-refused r e t u =
-      let z : append_checked f n buffer h ≡ checked.Refused r = sym told ∙ e in (
+      let z : append_checked f n buffer h ≡ Err r = sym told ∙ e in (
         sym (ap (λ a. cards_by a (n + cards_in h + 1)) z),
         u ∙ sym (ap (λ a. left_by f (cards_by a (n + cards_in h + 1)) (headers_of f n (take (80 * n) buffer) ++ (h ∷ [])) buffer) z),
       )
 
-  pub append-done : x ≡ checked.Accepted → (k : ℕ) (t : List ℕ) → k ≡ n + length h / 80 + 1
+  pub append-done : x ≡ no_refusal → (k : ℕ) (t : List ℕ) → k ≡ n + length h / 80 + 1
       → t ≡ volume_of f (headers_of f n (take (80 * n) buffer) ++ (h ∷ [])) ++ drop (80 * (n + length h / 80 + 1)) buffer
-      → (Cards k ≡ append_answer f n buffer h)
+      → (Ok k ≡ append_answer f n buffer h)
       × (t ≡ left_by f (append_answer f n buffer h) (headers_of f n (take (80 * n) buffer) ++ (h ∷ [])) buffer)
   unfolding append_answer cards_in
   append-done e k t i u =
-      let z : append_checked f n buffer h ≡ checked.Accepted = sym told ∙ e in (
-        ap Cards i ∙ sym (ap (λ a. cards_by a (n + length h / 80 + 1)) z),
+      let z : append_checked f n buffer h ≡ no_refusal = sym told ∙ e in (
+        ap Ok i ∙ sym (ap (λ a. cards_by a (n + length h / 80 + 1)) z),
         u ∙ sym (ap (λ a. left_by f (cards_by a (n + length h / 80 + 1)) (headers_of f n (take (80 * n) buffer) ++ (h ∷ [])) buffer) z),
       )
 
-  pub append_may : x ≡ checked.Accepted → append_checked f n buffer h ≡ checked.Accepted
-  append_may e = sym told ∙ e
-
 -- the header and the room, in turn
-module _ (f : Row) (n room : ℕ) (h : List ℕ) (x : Checked) (told : x ≡ header_answer f h) where
-  pub header_refused : (r : Refusal) → x ≡ checked.Refused r → x ≡ room_answer f n room h
+module _ (f : Row) (n room : ℕ) (h : List ℕ) (x : Result ⊤ Refusal) (told : x ≡ header_answer f h) where
+  pub header_refused : (r : Refusal) → x ≡ Err r → x ≡ room_answer f n room h
   unfolding room_answer
   header_refused r e = rw (← told, e)
 
-  pub room_left : x ≡ checked.Accepted → (t : Bool) → t ≡ stated f (n + length h / 80 + 1) room → t ≡ true → checked.Accepted ≡ room_answer f n room h
+  pub room_left : x ≡ no_refusal → (t : Bool) → t ≡ stated f (n + length h / 80 + 1) room → t ≡ true → no_refusal ≡ room_answer f n room h
   unfolding room_answer cards_in
   room_left e t s q = rw (← told, e, ← s, q)
 
-  pub no_room : x ≡ checked.Accepted → (t : Bool) → t ≡ stated f (n + length h / 80 + 1) room → t ≡ false
-      → checked.Refused (refusal 20 0 0) ≡ room_answer f n room h
+  pub no_room : x ≡ no_refusal → (t : Bool) → t ≡ stated f (n + length h / 80 + 1) room → t ≡ false
+      → Err (refusal 20 0 0) ≡ room_answer f n room h
   unfolding room_answer cards_in
   no_room e t s q = rw (← told, e, ← s, q)
 
 -- the volume, and then these
-module _ (f : Row) (n : ℕ) (buffer h : List ℕ) (x : Checked) (told : x ≡ volume_answer f n buffer) where
-  pub volume_refused : (r : Refusal) → x ≡ checked.Refused r → checked.Refused r ≡ append_checked f n buffer h
+module _ (f : Row) (n : ℕ) (buffer h : List ℕ) (x : Result ⊤ Refusal) (told : x ≡ volume_answer f n buffer) where
+  pub volume_refused : (r : Refusal) → x ≡ Err r → Err r ≡ append_checked f n buffer h
   unfolding append_checked
   volume_refused r e = rw (← told, e)
 
-  pub volume_good : x ≡ checked.Accepted → (y : Checked) → y ≡ room_answer f n (length buffer / 80) h → y ≡ append_checked f n buffer h
+  pub volume_good : x ≡ no_refusal → (y : Result ⊤ Refusal) → y ≡ room_answer f n (length buffer / 80) h → y ≡ append_checked f n buffer h
   unfolding append_checked cards_in
   volume_good e y a = rw (← told, e) a
 
 -- the number of cards of an accepted volume is small
-pub few-cards : (form : Form) (n : ℕ) (buffer : List ℕ) → volume_answer (row_of form) n buffer ≡ checked.Accepted → n ≤ 1000000
+pub few-cards : (form : Form) (n : ℕ) (buffer : List ℕ) → volume_answer (row_of form) n buffer ≡ no_refusal → n ≤ 1000000
 few-cards form n buffer a =
     let few : n ≤ (row_of form).most = (accepted_volume (row_of form) (good_row form) n buffer a).few in
     omega (arith, most-small form)
@@ -193,12 +188,12 @@ empty-is f = refl
 
 module _ (form : Form) (buffer : List ℕ) where
   pub empty-refused : length buffer / 80 ≡ 0 → (t : List ℕ) → t ≡ buffer
-      → (Refused (refusal 20 0 0) ≡ empty_answer buffer) × (t ≡ left_by (row_of form) (empty_answer buffer) [] buffer)
+      → (Err (refusal 20 0 0) ≡ empty_answer buffer) × (t ≡ left_by (row_of form) (empty_answer buffer) [] buffer)
   unfolding empty_answer cards_in
   empty-refused e t u = (rw (eq-eqb (length buffer / 80) 0 e), rw (eq-eqb (length buffer / 80) 0 e) u)
 
   pub empty-laid : (length buffer / 80 ≡ 0 → ⊥) → (c t : List ℕ) → c ≡ trailer_card (row_of form) 1 0 → t ≡ laid_at buffer 0 c
-      → (Cards 1 ≡ empty_answer buffer) × (t ≡ left_by (row_of form) (empty_answer buffer) [] buffer)
+      → (Ok 1 ≡ empty_answer buffer) × (t ≡ left_by (row_of form) (empty_answer buffer) [] buffer)
   unfolding empty_answer cards_in laid_at
   empty-laid e c t i u =
       let l : length c ≡ 80 = ap length i ∙ length-trailer (row_of form) (good_row form) 1 0 (one_small form) (omega (arith, one_small form)) in

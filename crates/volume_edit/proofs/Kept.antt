@@ -10,8 +10,6 @@ use lib.ListN.{length, take, drop, get_or, length-append}
 use lib.Seq.{take_at, drop_at}
 use borrow.Author.Tests.{le-leb}
 use Rattle.base_refusal.specs.declared.Refusal.{Refusal}
-use Rattle.header_check.specs.declared.Checked.{Checked}
-use Rattle.header_check.specs.declared.Checked.TheVariants as checked
 use Rattle.header_check.specs.forms.Cards.{cards_in}
 use Rattle.header_check.specs.Refusing.{refusal_of}
 use Rattle.volume_form.specs.declared.Form.{Form}
@@ -25,16 +23,15 @@ use Rattle.volume_rules.proofs.Covering.{back}
 use Rattle.volume_rules.proofs.Appending.{joined-append, only, cards-sum}
 use Rattle.volume_rules.proofs.Exactly.{volume_long}
 use Rattle.volume_rules.proofs.Judging.{header_taken, volume_accepted, volume_tells, taken_wholes, not-refused}
-use Rattle.volume_check.specs.declared.Counted.TheVariants.{Lines}
 use Rattle.volume_check.specs.Answers.{lines_of, line_of}
 use Rattle.volume_check.proofs.Placing.{line-is, lines-counted}
-use Rattle.volume_edit.specs.declared.Volume.{Volume as Answer}
-use Rattle.volume_edit.specs.declared.Volume.TheVariants.{Cards, Refused}
 use Rattle.volume_edit.specs.Written.{append_checked, cards_by, append_answer, empty_answer, left_by}
 use Rattle.volume_edit.proofs.Appends.{May, may_append, one_small}
+use Rattle.std.specs.Prelude.{Result, Ok, Err, ⊤}
+use Rattle.base_refusal.specs.Refusals.{no_refusal}
 
 -- one of some accepted headers
-one_taken : (f : Row) (hs : List (List ℕ)) (p : ℕ) → Accepteds f hs → p < length hs → refusal_of (get_or hs p []) ≡ checked.Accepted
+one_taken : (f : Row) (hs : List (List ℕ)) (p : ℕ) → Accepteds f hs → p < length hs → refusal_of (get_or hs p []) ≡ no_refusal
 one_taken f [] p all l = absurd (not-suc-le-zero l)
 one_taken f (g ∷ hs) zero all l = (header_taken f g all.0).accepted
 one_taken f (g ∷ hs) (suc p) all l = one_taken f hs p all.1 (le_of_suc-le-suc l)
@@ -47,14 +44,14 @@ module _ (f : Row) (good : Good f) (n : ℕ) (buffer : List ℕ) (hs : List (Lis
       ∙ ap (λ gs. cond (leb 1 place && leb place (length gs)) (get_or gs (place - 1) []) []) (volume_tells f good n buffer hs is)
       ∙ rw (le-leb 1 place a, le-leb place (length hs) b)
 
-  pub lines-there : lines_of f n buffer ≡ Lines (length hs)
+  pub lines-there : lines_of f n buffer ≡ Ok (length hs)
   lines-there =
       sym (lines-counted f n buffer (volume_accepted f good n buffer hs is) (length hs) (ap length (sym (volume_tells f good n buffer hs is))))
 
-  pub line_taken : (place : ℕ) → 1 ≤ place → place ≤ length hs → refusal_of (line_of f n buffer place) ≡ checked.Accepted
+  pub line_taken : (place : ℕ) → 1 ≤ place → place ≤ length hs → refusal_of (line_of f n buffer place) ≡ no_refusal
   line_taken place a b = ap refusal_of (line_back place a b) ∙ one_taken f hs (place - 1) is.accepted (omega arith)
 
-accepteds_more : (f : Row) (hs : List (List ℕ)) (h : List ℕ) → Accepteds f hs → header_answer f h ≡ checked.Accepted → Accepteds f (hs ++ (h ∷ []))
+accepteds_more : (f : Row) (hs : List (List ℕ)) (h : List ℕ) → Accepteds f hs → header_answer f h ≡ no_refusal → Accepteds f (hs ++ (h ∷ []))
 accepteds_more f [] h all a = (a, tt)
 accepteds_more f (g ∷ hs) h all a = (all.0, accepteds_more f hs h all.1 a)
 
@@ -69,33 +66,33 @@ newest [] h = refl
 newest (g ∷ hs) h = newest hs h
 
 -- the number of cards that is answered was judged well
-judged : (x : Checked) (k m : ℕ) → cards_by x k ≡ Cards m → (x ≡ checked.Accepted) × (m ≡ k)
-judged checked.Accepted k m e = (refl, sym (number e))
+judged : (x : Result ⊤ Refusal) (k m : ℕ) → cards_by x k ≡ Ok m → (x ≡ no_refusal) × (m ≡ k)
+judged (Ok _) k m e = (refl, sym (number e))
   where
-    told : Answer → ℕ
-    told (Cards n) = n
-    told (Refused r) = 0
+    told : Result ℕ Refusal → ℕ
+    told (Ok n) = n
+    told (Err r) = 0
 
-    number : Cards k ≡ Cards m → k ≡ m
+    number : ◌≡◌ {A = Result ℕ Refusal} (Ok k) (Ok m) → k ≡ m
     number q = ap told q
-judged (checked.Refused r) k m e = absurd (apart (sym e))
+judged (Err r) k m e = absurd (apart (sym e))
   where
-    said : Answer → Checked
-    said (Cards n) = checked.Accepted
-    said (Refused r) = checked.Refused r
+    said : Result ℕ Refusal → Result ⊤ Refusal
+    said (Ok n) = no_refusal
+    said (Err r) = Err r
 
-    apart : Cards m ≡ Refused r → ⊥
+    apart : ◌≡◌ {A = Result ℕ Refusal} (Ok m) (Err r) → ⊥
     apart q = not-refused r (sym (ap said q))
 
 module _ (form : Form) (n m : ℕ) (buffer h : List ℕ) (hs : List (List ℕ)) (is : Holds (row_of form) n buffer hs)
-    (done : append_answer (row_of form) n buffer h ≡ Cards m) where
+    (done : append_answer (row_of form) n buffer h ≡ Ok m) where
   good : Good (row_of form)
   good = good_row form
 
   abbrev pub left : List ℕ
   left = left_by (row_of form) (append_answer (row_of form) n buffer h) (headers_of (row_of form) n (take (80 * n) buffer) ++ (h ∷ [])) buffer
 
-  was : (append_checked (row_of form) n buffer h ≡ checked.Accepted) × (m ≡ n + cards_in h + 1)
+  was : (append_checked (row_of form) n buffer h ≡ no_refusal) × (m ≡ n + cards_in h + 1)
   unfolding append_answer
   was = judged (append_checked (row_of form) n buffer h) (n + cards_in h + 1) m done
 
@@ -165,12 +162,12 @@ module _ (form : Form) (n m : ℕ) (buffer h : List ℕ) (hs : List (List ℕ)) 
       last = omega arith
 
 -- a refused append leaves the buffer as it came
-pub append-stays : (f : Row) (n : ℕ) (buffer h : List ℕ) (r : Refusal) (gs : List (List ℕ)) → append_answer f n buffer h ≡ Refused r
+pub append-stays : (f : Row) (n : ℕ) (buffer h : List ℕ) (r : Refusal) (gs : List (List ℕ)) → append_answer f n buffer h ≡ Err r
     → left_by f (append_answer f n buffer h) gs buffer ≡ buffer
 append-stays f n buffer h r gs e = ap (λ a. left_by f a gs buffer) e
 
 -- the empty volume
-pub empty_volume : (form : Form) (buffer : List ℕ) → empty_answer buffer ≡ Cards 1
+pub empty_volume : (form : Form) (buffer : List ℕ) → empty_answer buffer ≡ Ok 1
     → Holds (row_of form) 1 (left_by (row_of form) (empty_answer buffer) [] buffer) []
 unfolding joined cards_in
 empty_volume form buffer e =

@@ -1,7 +1,7 @@
 // Superseded lines taken out of a volume within its buffer: of those that are the same line only the last is kept.
-ghost use Rattle.std.specs.Prelude.{◌≡◌, cond, ◌+◌, ◌-◌, ◌*◌, ◌/◌, length, take, drop, replicate};
+ghost use Rattle.base_refusal.specs.Refusals.{no_refusal};
+ghost use Rattle.std.specs.Prelude.{◌≡◌, ◌+◌, ◌-◌, ◌*◌, ◌/◌, length, take, drop, replicate};
 ghost use Rattle.volume_form.specs.Rows.{row_of};
-ghost use Rattle.header_check.specs.declared.Checked.TheVariants.{Accepted};
 ghost use Rattle.header_check.specs.forms.Cards.{cards_in};
 ghost use Rattle.volume_form.specs.Moved.{laid_at, moved};
 ghost use Rattle.volume_form.specs.Marked.{trailer_card};
@@ -14,11 +14,9 @@ ghost use Rattle.volume_rules.specs.Packed.{Packed};
 ghost use Rattle.volume_edit.specs.Written.{compact_answer, compacted_by};
 ghost use Rattle.volume_edit.specs.Parts.{Listed, LineFits, Closes, line_kept};
 
-use crate::Volume;
-use base_digits::signs;
-use base_value::{Reading, Value};
+use base_refusal::Refusal;
+use base_value::{Unread, Value};
 use format_layout::CARD;
-use header_check::Checked;
 use value_field::spelling;
 use value_field::spelling::Spelling;
 use value_text::text;
@@ -46,40 +44,37 @@ const FIRST_END: usize = 22;
 
 const SECOND_END: usize = 27;
 
+#[tactic(auto, unfolding(volume_rules::specs::SameLine::sort_of))]
 fn sign_of(z: i64) -> usize
-    ensures { result ≡ sort_of (Reading.Held (Value.Whole z)) }
+    ensures { result ≡ sort_of (Ok (Value.Whole z)) }
 {
-    if signs::below_zero(z) {
+    if z < 0 {
         return BELOW_ZERO;
     }
     FROM_ZERO
 }
 
 // What sort of sequence number was read.
-fn sort_of(read: Reading) -> usize
+#[tactic(auto, unfolding(volume_rules::specs::SameLine::sort_of))]
+fn sort_of(read: Result<Value, Unread>) -> usize
     ensures { result ≡ sort_of read }
 {
-    let Reading::Held(v) = read else {
-        return ODD;
-    };
-    match v {
-        Value::Absent => NONE,
-        Value::Whole(z) => sign_of(z),
+    match read {
+        Ok(Value::Absent) => NONE,
+        Ok(Value::Whole(z)) => sign_of(z),
         _ => ODD,
     }
 }
 
 // Its size without the sign, 0 where there is none.
-fn size_of(read: Reading) -> u64
+#[tactic(auto, unfolding(volume_rules::specs::SameLine::size_of))]
+fn size_of(read: Result<Value, Unread>) -> u64
     ensures { result ≡ size_of read }
 {
-    let Reading::Held(v) = read else {
-        return 0;
-    };
-    if let Value::Whole(z) = v {
-        return signs::magnitude(z);
+    match read {
+        Ok(Value::Whole(z)) => z.unsigned_abs(),
+        _ => 0,
     }
-    0
 }
 
 // Whether the sequence numbers in some columns are equal by value.
@@ -88,7 +83,7 @@ fn same_number(columns: &[u8], others: &[u8]) -> bool
 {
     let one = spelling::read(columns, Spelling::Whole);
     let other = spelling::read(others, Spelling::Whole);
-    (sort_of(one) == sort_of(other)) & (size_of(one) == size_of(other))
+    sort_of(one) == sort_of(other) && size_of(one) == size_of(other)
 }
 
 // Whether two directory cards are of the same line.
@@ -97,10 +92,8 @@ fn same_line(card: &[u8], other: &[u8]) -> bool
     ensures { result ≡ same_on card.now other.now }
 {
     let name = text::stretch(&card[FIRST..FIRST_END]);
-    if !base_lists::same(name, text::stretch(&other[FIRST..FIRST_END])) {
-        return false;
-    }
-    same_number(&card[SECOND..SECOND_END], &other[SECOND..SECOND_END])
+    name == text::stretch(&other[FIRST..FIRST_END])
+        && same_number(&card[SECOND..SECOND_END], &other[SECOND..SECOND_END])
 }
 
 // Whether one of some later directory cards is of the same line as a card.
@@ -108,16 +101,7 @@ fn is_superseded(card: &[u8], later: &[u8]) -> bool
     requires { length card.now ≡ 80 }
     ensures { result ≡ superseded_on card.now later.now (length later.now / 80) }
 {
-    let count = later.len() / CARD;
-    let mut i = 0;
-    while i < count {
-        let from = CARD * i;
-        if same_line(card, &later[from..from + CARD]) {
-            return true;
-        }
-        i += 1;
-    }
-    false
+    later.chunks_exact(CARD).any(|other| same_line(card, other))
 }
 
 // Moves a line's cards down, and lays its directory card.
@@ -131,27 +115,6 @@ fn keep_line(buffer: &mut [u8], form: Form, at: usize, to: usize, n: usize, card
     moving::lay(buffer, CARD * card, &entry);
 }
 
-// Keeps a line unless it is superseded, and answers how many of its cards are kept.
-fn pack_line(
-    buffer: &mut [u8],
-    form: Form,
-    gone: bool,
-    at: usize,
-    to: usize,
-    n: usize,
-    card: usize,
-) -> usize
-    requires { LineFits (row_of form) at to n card buffer.old }
-    ensures number { result ≡ cond gone 0 n }
-    ensures buffer { buffer.new ≡ cond gone buffer.old (line_kept (row_of form) at to n card buffer.old) }
-{
-    if gone {
-        return 0;
-    }
-    keep_line(buffer, form, at, to, n, card);
-    n
-}
-
 // Moves the lines that are kept to the front, and their directory cards to the front of the directory. What is written never
 // stands behind what is read.
 fn pack(buffer: &mut [u8], form: Form, body: usize, count: usize) -> Kept
@@ -163,16 +126,17 @@ fn pack(buffer: &mut [u8], form: Form, body: usize, count: usize) -> Kept
     let mut at = 0;
     let mut cards = 0;
     let mut lines = 0;
-    let mut i = 0;
-    while i < count {
+    for i in 0..count {
         let here = CARD * (body + i);
         let next = here + CARD;
         let n = reading::count_on(form, &buffer[here..next]) as usize;
         let gone = is_superseded(&buffer[here..next], &buffer[next..end]);
-        cards += pack_line(buffer, form, gone, at, cards, n, body + lines);
-        lines += base_lists::bit_of(!gone);
+        if !gone {
+            keep_line(buffer, form, at, cards, n, body + lines);
+            cards += n;
+            lines += 1;
+        }
         at += n;
-        i += 1;
     }
     Kept { cards, lines }
 }
@@ -195,7 +159,7 @@ fn close(buffer: &mut [u8], form: Form, body: usize, kept: Kept, cards: usize)
 
 // Compacts an accepted volume, and answers the new number of cards.
 fn write(form: Form, buffer: &mut [u8], cards: usize) -> usize
-    requires { volume_answer (row_of form) cards buffer.old ≡ Accepted }
+    requires { volume_answer (row_of form) cards buffer.old ≡ no_refusal }
     ensures number { result
         ≡ cards_in (joined (latest same_line (headers_of (row_of form) cards (take (80 * cards) buffer.old))))
         + length (latest same_line (headers_of (row_of form) cards (take (80 * cards) buffer.old))) + 1 }
@@ -209,7 +173,7 @@ fn write(form: Form, buffer: &mut [u8], cards: usize) -> usize
 }
 
 // Compacts a volume of a form.
-fn compact_in(form: Form, buffer: &mut [u8], cards: usize) -> Volume
+fn compact_in(form: Form, buffer: &mut [u8], cards: usize) -> Result<usize, Refusal>
     ensures answer { result ≡ compact_answer (row_of form) cards buffer.old }
     ensures buffer { buffer.new
         ≡ compacted_by (row_of form) (compact_answer (row_of form) cards buffer.old)
@@ -217,13 +181,13 @@ fn compact_in(form: Form, buffer: &mut [u8], cards: usize) -> Volume
 {
     let checked = judging::judge(form, &buffer[..], cards);
     match checked {
-        Checked::Accepted => Volume::Cards(write(form, buffer, cards)),
-        Checked::Refused(r) => Volume::Refused(r),
+        Ok(()) => Ok(write(form, buffer, cards)),
+        Err(r) => Err(r),
     }
 }
 
 // Compacts a volume: of headers of the same line only the last is kept.
-pub fn compact(buffer: &mut [u8], cards: usize) -> Volume
+pub fn compact(buffer: &mut [u8], cards: usize) -> Result<usize, Refusal>
     ensures answer { result ≡ compact_answer (row_of (form_in cards buffer.old)) cards buffer.old }
     ensures buffer { buffer.new
         ≡ compacted_by (row_of (form_in cards buffer.old)) (compact_answer (row_of (form_in cards buffer.old)) cards buffer.old)

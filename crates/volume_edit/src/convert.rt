@@ -1,9 +1,9 @@
 // A volume brought into another form within its buffer: each directory card is written anew where it stands, and so is the trailer.
+ghost use Rattle.base_refusal.specs.Refusals.{no_refusal};
 ghost use Rattle.std.specs.Prelude.{◌≡◌, ◌++◌, ◌+◌, ◌*◌, ◌/◌, length, take, drop};
 ghost use Rattle.volume_form.specs.Moved.{laid_at};
 ghost use Rattle.volume_form.specs.Rows.{row_of};
 ghost use Rattle.volume_form.specs.Marked.{entry_card, count_on};
-ghost use Rattle.header_check.specs.declared.Checked.TheVariants.{Accepted};
 ghost use Rattle.volume_rules.specs.Volume.{directory, volume_of};
 ghost use Rattle.volume_rules.specs.Sound.{headers_in, headers_of};
 ghost use Rattle.volume_rules.specs.Judged.{unless, volume_answer, form_in};
@@ -11,10 +11,8 @@ ghost use Rattle.volume_rules.specs.Converted.{few_on, holds, convert_checked};
 ghost use Rattle.volume_edit.specs.Written.{convert_answer, left_by};
 ghost use Rattle.volume_edit.specs.Parts.{CardFits, Listed};
 
-use crate::Volume;
-use base_refusal::{NOT_OLD, refuse};
+use base_refusal::{NOT_OLD, Refusal, refuse};
 use format_layout::CARD;
-use header_check::Checked;
 use volume_check::judging;
 use volume_form::{Form, building, moving, reading};
 
@@ -43,11 +41,8 @@ fn convert_directory(buffer: &mut [u8], from: Form, to: Form, body: usize, count
         ++ drop (80 * (body + count)) buffer.old) }
 {
     let mut at = 0;
-    let mut i = 0;
-    while i < count {
-        let n = convert_card(buffer, from, to, at, body + i);
-        at += n;
-        i += 1;
+    for i in 0..count {
+        at += convert_card(buffer, from, to, at, body + i);
     }
 }
 
@@ -55,54 +50,47 @@ fn convert_directory(buffer: &mut [u8], from: Form, to: Form, body: usize, count
 fn are_few(form: Form, most: usize, directory: &[u8]) -> bool
     ensures { result ≡ few_on (row_of form) most directory.now (length directory.now / 80) }
 {
-    let count = directory.len() / CARD;
-    let mut i = 0;
-    while i < count {
-        let from = CARD * i;
-        if most < reading::count_on(form, &directory[from..from + CARD]) as usize {
-            return false;
-        }
-        i += 1;
-    }
-    true
+    directory
+        .chunks_exact(CARD)
+        .all(|card| reading::count_on(form, card) as usize <= most)
 }
 
 // Whether a form holds an accepted volume of another.
 fn is_held(from: Form, to: Form, volume: &[u8], cards: usize) -> bool
-    requires { volume_answer (row_of from) cards volume.now ≡ Accepted }
+    requires { volume_answer (row_of from) cards volume.now ≡ no_refusal }
     ensures { result ≡ holds (row_of to) cards (headers_of (row_of from) cards (take (80 * cards) volume.now)) }
 {
     let largest = volume_form::largest_of(to);
     let most = volume_form::most_of(to);
     let front = &volume[..CARD * cards];
-    (cards <= most) & are_few(from, largest, judging::directory_of(from, front, cards))
+    cards <= most && are_few(from, largest, judging::directory_of(from, front, cards))
 }
 
 // Whether an accepted volume can be brought into another form.
-fn judge_form(from: Form, to: Form, volume: &[u8], cards: usize) -> Checked
-    requires { volume_answer (row_of from) cards volume.now ≡ Accepted }
-    ensures { result ≡ unless (holds (row_of to) cards (headers_of (row_of from) cards (take (80 * cards) volume.now))) 21 Accepted }
+fn judge_form(from: Form, to: Form, volume: &[u8], cards: usize) -> Result<(), Refusal>
+    requires { volume_answer (row_of from) cards volume.now ≡ no_refusal }
+    ensures { result ≡ unless (holds (row_of to) cards (headers_of (row_of from) cards (take (80 * cards) volume.now))) 21 no_refusal }
 {
     if is_held(from, to, volume, cards) {
-        return Checked::Accepted;
+        return Ok(());
     }
-    Checked::Refused(refuse(NOT_OLD, 0, 0))
+    Err(refuse(NOT_OLD, 0, 0))
 }
 
 // Whether a volume can be: its own refusal first.
-fn judge_convert(from: Form, to: Form, volume: &[u8], cards: usize) -> Checked
+fn judge_convert(from: Form, to: Form, volume: &[u8], cards: usize) -> Result<(), Refusal>
     ensures { result ≡ convert_checked (row_of from) (row_of to) cards volume.now }
 {
     let checked = judging::judge(from, volume, cards);
     match checked {
-        Checked::Accepted => judge_form(from, to, volume, cards),
-        Checked::Refused(r) => Checked::Refused(r),
+        Ok(()) => judge_form(from, to, volume, cards),
+        Err(r) => Err(r),
     }
 }
 
 // Writes the directory and the trailer of a volume that another form holds, and answers the number of its cards.
 fn write(from: Form, to: Form, buffer: &mut [u8], cards: usize) -> usize
-    requires { convert_checked (row_of from) (row_of to) cards buffer.old ≡ Accepted }
+    requires { convert_checked (row_of from) (row_of to) cards buffer.old ≡ no_refusal }
     ensures number { result ≡ cards }
     ensures buffer { buffer.new
         ≡ volume_of (row_of to) (headers_of (row_of from) cards (take (80 * cards) buffer.old)) ++ drop (80 * cards) buffer.old }
@@ -116,7 +104,7 @@ fn write(from: Form, to: Form, buffer: &mut [u8], cards: usize) -> usize
 }
 
 // Brings a volume of one form into another.
-fn convert_to(from: Form, to: Form, buffer: &mut [u8], cards: usize) -> Volume
+fn convert_to(from: Form, to: Form, buffer: &mut [u8], cards: usize) -> Result<usize, Refusal>
     ensures answer { result ≡ convert_answer (row_of from) (row_of to) cards buffer.old }
     ensures buffer { buffer.new
         ≡ left_by (row_of to) (convert_answer (row_of from) (row_of to) cards buffer.old)
@@ -124,13 +112,13 @@ fn convert_to(from: Form, to: Form, buffer: &mut [u8], cards: usize) -> Volume
 {
     let checked = judge_convert(from, to, &buffer[..], cards);
     match checked {
-        Checked::Accepted => Volume::Cards(write(from, to, buffer, cards)),
-        Checked::Refused(r) => Volume::Refused(r),
+        Ok(()) => Ok(write(from, to, buffer, cards)),
+        Err(r) => Err(r),
     }
 }
 
 // Brings a volume into the wide form.
-pub fn widen(buffer: &mut [u8], cards: usize) -> Volume
+pub fn widen(buffer: &mut [u8], cards: usize) -> Result<usize, Refusal>
     ensures answer { result ≡ convert_answer (row_of (form_in cards buffer.old)) (row_of Form.Wide) cards buffer.old }
     ensures buffer { buffer.new
         ≡ left_by (row_of Form.Wide) (convert_answer (row_of (form_in cards buffer.old)) (row_of Form.Wide) cards buffer.old)
@@ -141,7 +129,7 @@ pub fn widen(buffer: &mut [u8], cards: usize) -> Volume
 }
 
 // Brings a volume into the old form.
-pub fn narrow(buffer: &mut [u8], cards: usize) -> Volume
+pub fn narrow(buffer: &mut [u8], cards: usize) -> Result<usize, Refusal>
     ensures answer { result ≡ convert_answer (row_of (form_in cards buffer.old)) (row_of Form.Old) cards buffer.old }
     ensures buffer { buffer.new
         ≡ left_by (row_of Form.Old) (convert_answer (row_of (form_in cards buffer.old)) (row_of Form.Old) cards buffer.old)

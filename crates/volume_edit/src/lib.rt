@@ -4,8 +4,8 @@
 pub mod compact;
 pub mod convert;
 
+ghost use Rattle.base_refusal.specs.Refusals.{no_refusal};
 ghost use Rattle.std.specs.Prelude.{◌≡◌, [], ◌∷◌, ◌++◌, ◌+◌, ◌-◌, ◌*◌, ◌/◌, ◌≤◌, length, take, drop};
-ghost use Rattle.header_check.specs.declared.Checked.TheVariants.{Accepted};
 ghost use Rattle.volume_form.specs.Moved.{laid_at, moved};
 ghost use Rattle.volume_form.specs.Rows.{row_of};
 ghost use Rattle.volume_rules.specs.Volume.{volume_of};
@@ -16,28 +16,20 @@ ghost use Rattle.volume_edit.specs.Written.{Fits, room_answer, append_checked, e
 
 use base_refusal::{NO_CARDS_LEFT, Refusal, refuse};
 use format_layout::CARD;
-use header_check::Checked;
 use volume_check::judging;
 use volume_form::{Form, building, moving};
 
-// The number of cards that a volume now has, or the refusal.
-#[derive(Clone, Copy)]
-pub enum Volume {
-    Cards(usize),
-    Refused(Refusal),
-}
-
 // Lays the empty volume, a trailer alone.
-pub fn lay_empty(buffer: &mut [u8]) -> Volume
+pub fn lay_empty(buffer: &mut [u8]) -> Result<usize, Refusal>
     ensures answer { result ≡ empty_answer buffer.old }
     ensures buffer { buffer.new ≡ left_by (row_of Form.Old) (empty_answer buffer.old) [] buffer.old }
 {
     if buffer.len() / CARD == 0 {
-        return Volume::Refused(refuse(NO_CARDS_LEFT, 0, 0));
+        return Err(refuse(NO_CARDS_LEFT, 0, 0));
     }
     let trailer = building::trailer_card(Form::Old, 1, 0);
     moving::lay(buffer, 0, &trailer);
-    Volume::Cards(1)
+    Ok(1)
 }
 
 // The stretch moved up by the header's length, and the header laid where it stood.
@@ -75,34 +67,34 @@ fn lay_header(buffer: &mut [u8], form: Form, first: usize, lines: usize, header:
 }
 
 // The header, and the room for it behind so many cards.
-fn judge_header(form: Form, cards: usize, room: usize, header: &[u8]) -> Checked
+fn judge_header(form: Form, cards: usize, room: usize, header: &[u8]) -> Result<(), Refusal>
     requires { cards ≤ 1000000 }
     ensures { result ≡ room_answer (row_of form) cards room header.now }
 {
     let checked = judging::check_header(form, header);
-    let Checked::Accepted = checked else {
+    let Ok(()) = checked else {
         return checked;
     };
     if judging::is_stated(form, cards + header.len() / CARD + 1, room) {
-        return Checked::Accepted;
+        return Ok(());
     }
-    Checked::Refused(refuse(NO_CARDS_LEFT, 0, 0))
+    Err(refuse(NO_CARDS_LEFT, 0, 0))
 }
 
 // Whether a header can be appended: the volume, the header, the room.
-fn judge_append(form: Form, buffer: &[u8], cards: usize, header: &[u8]) -> Checked
+fn judge_append(form: Form, buffer: &[u8], cards: usize, header: &[u8]) -> Result<(), Refusal>
     ensures { result ≡ append_checked (row_of form) cards buffer.now header.now }
 {
     let checked = judging::judge(form, buffer, cards);
     match checked {
-        Checked::Accepted => judge_header(form, cards, buffer.len() / CARD, header),
-        Checked::Refused(r) => Checked::Refused(r),
+        Ok(()) => judge_header(form, cards, buffer.len() / CARD, header),
+        Err(r) => Err(r),
     }
 }
 
 // Appends a header that may be, and answers the new number of cards.
 fn write(form: Form, buffer: &mut [u8], cards: usize, header: &[u8]) -> usize
-    requires { append_checked (row_of form) cards buffer.old header.now ≡ Accepted }
+    requires { append_checked (row_of form) cards buffer.old header.now ≡ no_refusal }
     ensures number { result ≡ cards + length header.now / 80 + 1 }
     ensures buffer { buffer.new
         ≡ volume_of (row_of form) (headers_of (row_of form) cards (take (80 * cards) buffer.old) ++ (header.now ∷ []))
@@ -114,7 +106,7 @@ fn write(form: Form, buffer: &mut [u8], cards: usize, header: &[u8]) -> usize
 }
 
 // Appends a header to a volume of a form.
-fn append_to(form: Form, buffer: &mut [u8], cards: usize, header: &[u8]) -> Volume
+fn append_to(form: Form, buffer: &mut [u8], cards: usize, header: &[u8]) -> Result<usize, Refusal>
     ensures answer { result ≡ append_answer (row_of form) cards buffer.old header.now }
     ensures buffer { buffer.new
         ≡ left_by (row_of form) (append_answer (row_of form) cards buffer.old header.now)
@@ -122,13 +114,13 @@ fn append_to(form: Form, buffer: &mut [u8], cards: usize, header: &[u8]) -> Volu
 {
     let checked = judge_append(form, &buffer[..], cards, header);
     match checked {
-        Checked::Accepted => Volume::Cards(write(form, buffer, cards, header)),
-        Checked::Refused(r) => Volume::Refused(r),
+        Ok(()) => Ok(write(form, buffer, cards, header)),
+        Err(r) => Err(r),
     }
 }
 
 // Appends a header to a volume.
-pub fn append(buffer: &mut [u8], cards: usize, header: &[u8]) -> Volume
+pub fn append(buffer: &mut [u8], cards: usize, header: &[u8]) -> Result<usize, Refusal>
     ensures answer { result ≡ append_answer (row_of (form_in cards buffer.old)) cards buffer.old header.now }
     ensures buffer { buffer.new
         ≡ left_by (row_of (form_in cards buffer.old)) (append_answer (row_of (form_in cards buffer.old)) cards buffer.old header.now)

@@ -33,25 +33,23 @@ fn coded(code: [u8; CODE]) -> [u8; CARD]
 }
 
 // The card with a header's name and sequence number.
-fn named(card: [u8; CARD], header: &[u8]) -> [u8; CARD]
+fn named(mut card: [u8; CARD], header: &[u8]) -> [u8; CARD]
     requires { 80 ≤ length header.now }
     ensures { result ≡ laid_at (laid_at card 6 (name_of header.now)) 23 (sequence_of header.now) }
 {
-    let mut next = card;
-    moving::lay(&mut next, FIRST, &header[NAME..NAME_END]);
-    moving::lay(&mut next, SECOND, &header[SEQUENCE..SEQUENCE_END]);
-    next
+    moving::lay(&mut card, FIRST, &header[NAME..NAME_END]);
+    moving::lay(&mut card, SECOND, &header[SEQUENCE..SEQUENCE_END]);
+    card
 }
 
 // The card with two numbers from a column on, a blank between them.
-fn numbered(card: [u8; CARD], from: usize, width: usize, at: u64, n: u64) -> [u8; CARD]
+fn numbered(mut card: [u8; CARD], from: usize, width: usize, at: u64, n: u64) -> [u8; CARD]
     requires { (from ≤ 28) × (width ≤ 5) × (size at ≤ width) × (size n ≤ width) }
     ensures { result ≡ laid_at (laid_at card from (spelled width at)) (from + width + 1) (spelled width n) }
 {
-    let mut next = card;
-    lay_number(&mut next, from, width, at);
-    lay_number(&mut next, from + width + 1, width, n);
-    next
+    lay_number(&mut card, from, width, at);
+    lay_number(&mut card, from + width + 1, width, n);
+    card
 }
 
 // The directory card of a header whose first card is the card `at` of the volume.

@@ -6,27 +6,14 @@ ghost use Rattle.volume_form.specs.Marked.{count_on, start_on, first_on};
 
 use crate::{FIRST, Form, NUMBERS};
 
-// What a byte counts as a digit: nothing where it is below the digits.
-fn value_of(b: u8) -> u64
-    ensures value { result ≡ b - 48 }
-    ensures small { result ≤ 207 }
-{
-    if b < b'0' {
-        return 0;
-    }
-    (b - b'0') as u64
-}
-
-// The number that stands in some columns.
+// The number that stands in some columns; a byte below the digits counts as nothing.
 fn standing_in(columns: &[u8]) -> u64
     requires { length columns.now ≤ 9 }
     ensures { result ≡ standing columns.now }
 {
     let mut n = 0u64;
-    let mut i = 0;
-    while i < columns.len() {
-        n = 10 * n + value_of(columns[i]);
-        i += 1;
+    for b in columns {
+        n = 10 * n + u64::from(b.saturating_sub(b'0'));
     }
     n
 }

@@ -10,9 +10,7 @@ use lib.Dec.{eqb, leb, ltb}
 use borrow.Author.Tests.{le-leb, leb-true, le-ltb, eq-eqb, ltb-false}
 use Rattle.base_digits.proofs.digits.Bools.{and_left, and_right}
 use Rattle.base_refusal.specs.declared.Refusal.{Refusal}
-use Rattle.base_refusal.specs.Refusals.{refusal}
-use Rattle.header_check.specs.declared.Checked.{Checked}
-use Rattle.header_check.specs.declared.Checked.TheVariants.{Accepted, Refused}
+use Rattle.base_refusal.specs.Refusals.{refusal, no_refusal}
 use Rattle.header_check.specs.forms.Cards.{cards_in}
 use Rattle.header_check.specs.Refusing.{refusal_of}
 use Rattle.header_laws.proofs.Exactly.{accepted_exactly}
@@ -25,14 +23,15 @@ use Rattle.volume_rules.specs.Judged.{unless, and_then, stated, header_answer, h
 use Rattle.volume_rules.proofs.Covering.{entered}
 use Rattle.volume_rules.proofs.Exactly.{sound_volume, volume_sound, volume_told, volume_long}
 use Rattle.volume_rules.proofs.Promises.{total}
+use Rattle.std.specs.Prelude.{Result, Ok, Err, ⊤}
 
 -- an answer that accepts is no refusal
-pub not-refused : (r : Refusal) → Refused r ≡ Accepted → ⊥
+pub not-refused : (r : Refusal) → ◌≡◌ {A = Result ⊤ Refusal} (Err r) no_refusal → ⊥
 not-refused r e = false≢true (sym (ap fine (sym e)))
   where
-    fine : Checked → Bool
-    fine Accepted = true
-    fine (Refused r) = false
+    fine : Result ⊤ Refusal → Bool
+    fine (Ok _) = true
+    fine (Err r) = false
 
 -- so many cards of a buffer that holds them
 pub front_long : (n : ℕ) (b : List ℕ) → n ≤ cards_in b → length (take (80 * n) b) ≡ 80 * n
@@ -40,13 +39,13 @@ unfolding cards_in
 front_long n b h = length-take-le (80 * n) b (omega arith)
 
 -- what accepts has passed its test, and what comes behind it accepts
-pub unless-passed : (t : Bool) (k : ℕ) (next : Checked) → unless t k next ≡ Accepted → (t ≡ true) × (next ≡ Accepted)
+pub unless-passed : (t : Bool) (k : ℕ) (next : Result ⊤ Refusal) → unless t k next ≡ no_refusal → (t ≡ true) × (next ≡ no_refusal)
 unless-passed true k next e = (refl, e)
 unless-passed false k next e = absurd (not-refused (refusal k 0 0) e)
 
-pub then_passed : (a next : Checked) → and_then a next ≡ Accepted → (a ≡ Accepted) × (next ≡ Accepted)
-then_passed Accepted next e = (refl, e)
-then_passed (Refused r) next e = absurd (not-refused r e)
+pub then_passed : (a next : Result ⊤ Refusal) → and_then a next ≡ no_refusal → (a ≡ no_refusal) × (next ≡ no_refusal)
+then_passed (Ok _) next e = (refl, e)
+then_passed (Err r) next e = absurd (not-refused r e)
 
 -- a stated number
 pub record Stated (f : Row) (n room : ℕ) : Type 0 where
@@ -70,11 +69,11 @@ so_stated f n room s = rw (le-leb 1 n s.some, le-leb n f.most s.few, le-leb n ro
 
 -- a header that a volume takes is accepted, of whole cards, and not too large for the form
 pub record Taken (f : Row) (h : List ℕ) : Type 0 where
-  pub accepted : refusal_of h ≡ Accepted
+  pub accepted : refusal_of h ≡ no_refusal
   pub whole : Whole h
   pub few : cards_in h ≤ f.largest
 
-accepted-whole : (h : List ℕ) → refusal_of h ≡ Accepted → Whole h
+accepted-whole : (h : List ℕ) → refusal_of h ≡ no_refusal → Whole h
 unfolding cards_in
 accepted-whole h a =
     let s = ((accepted_exactly h).0 a).0 in
@@ -82,33 +81,33 @@ accepted-whole h a =
     let whole : length h % 80 ≡ 0 = s.whole in
     record { some = omega arith; whole = omega arith }
 
-pub header_taken : (f : Row) (h : List ℕ) → header_answer f h ≡ Accepted → Taken f h
+pub header_taken : (f : Row) (h : List ℕ) → header_answer f h ≡ no_refusal → Taken f h
 unfolding header_answer
 header_taken f h e = go (eqb (length h % 80) 0) refl (ltb f.largest (cards_in h)) refl e
   where
     go : (a : Bool) → eqb (length h % 80) 0 ≡ a → (b : Bool) → ltb f.largest (cards_in h) ≡ b
-        → cond (a && b) (Refused (refusal 3 0 0)) (refusal_of h) ≡ Accepted → Taken f h
+        → cond (a && b) (Err (refusal 3 0 0)) (refusal_of h) ≡ no_refusal → Taken f h
     go true p true q x = absurd (not-refused (refusal 3 0 0) x)
     go true p false q x = record { accepted = x; whole = accepted-whole h x; few = ltb-false f.largest (cards_in h) q }
     go false p b q x =
         let s = ((accepted_exactly h).0 x).0 in
         absurd (false≢true (sym p ∙ eq-eqb (length h % 80) 0 s.whole))
 
-pub taken_header : (f : Row) (h : List ℕ) → refusal_of h ≡ Accepted → cards_in h ≤ f.largest → header_answer f h ≡ Accepted
+pub taken_header : (f : Row) (h : List ℕ) → refusal_of h ≡ no_refusal → cards_in h ≤ f.largest → header_answer f h ≡ no_refusal
 unfolding header_answer
 taken_header f h a l = let q : ltb f.largest (cards_in h) ≡ false = le-ltb f.largest (cards_in h) l in go (eqb (length h % 80) 0) q
   where
-    go : (t : Bool) → ltb f.largest (cards_in h) ≡ false → cond (t && ltb f.largest (cards_in h)) (Refused (refusal 3 0 0)) (refusal_of h) ≡ Accepted
+    go : (t : Bool) → ltb f.largest (cards_in h) ≡ false → cond (t && ltb f.largest (cards_in h)) (Err (refusal 3 0 0)) (refusal_of h) ≡ no_refusal
     go true q = rw q a
     go false q = a
 
 -- all of some headers
-pub headers_taken : (f : Row) (hs : List (List ℕ)) → headers_answer f hs ≡ Accepted → Accepteds f hs
+pub headers_taken : (f : Row) (hs : List (List ℕ)) → headers_answer f hs ≡ no_refusal → Accepteds f hs
 unfolding headers_answer
 headers_taken f [] e = tt
 headers_taken f (h ∷ hs) e = let r = then_passed (header_answer f h) (headers_answer f hs) e in (r.0, headers_taken f hs r.1)
 
-pub taken_headers : (f : Row) (hs : List (List ℕ)) → Accepteds f hs → headers_answer f hs ≡ Accepted
+pub taken_headers : (f : Row) (hs : List (List ℕ)) → Accepteds f hs → headers_answer f hs ≡ no_refusal
 unfolding headers_answer
 taken_headers f [] a = refl
 taken_headers f (h ∷ hs) a = rw a.0 (taken_headers f hs a.1)
@@ -139,9 +138,9 @@ module _ (f : Row) (good : Good f) (n : ℕ) (buffer : List ℕ) where
     pub long : length v ≡ 80 * n
     pub points_well : points f n (last_card n v) ≡ true
     pub covers_well : covers f 1 (body_of f n v) (directory_of f n v) (n - first_of f n v) ≡ true
-    pub headers_well : headers_answer f (headers_of f n v) ≡ Accepted
+    pub headers_well : headers_answer f (headers_of f n v) ≡ no_refusal
 
-  pub sounds : volume_answer f n buffer ≡ Accepted → Sounds
+  pub sounds : volume_answer f n buffer ≡ no_refusal → Sounds
   unfolding volume_answer cards_answer parts_answer
   sounds e =
       let a = unless-passed (stated f n (cards_in buffer)) 18 _ e in
@@ -156,7 +155,7 @@ module _ (f : Row) (good : Good f) (n : ℕ) (buffer : List ℕ) where
   both_true s = rw (s.points_well, s.covers_well)
 
   -- an accepted volume is the volume of the headers that it tells
-  pub accepted_volume : volume_answer f n buffer ≡ Accepted → Holds f n buffer (headers_of f n v)
+  pub accepted_volume : volume_answer f n buffer ≡ no_refusal → Holds f n buffer (headers_of f n v)
   accepted_volume e =
       let s = sounds e in
       let r = sound_volume f n v s.long (both_true s) in
@@ -185,7 +184,7 @@ module _ (f : Row) (good : Good f) (n : ℕ) (buffer : List ℕ) where
     sound-there = ap₂ (λ k l. sound f k l) is.cards is.bytes ∙ volume_sound f good hs ws fits
 
     -- the volume of accepted headers is accepted
-    pub volume_accepted : volume_answer f n buffer ≡ Accepted
+    pub volume_accepted : volume_answer f n buffer ≡ no_refusal
     unfolding volume_answer cards_answer parts_answer sound
     volume_accepted =
         let p : points f n (last_card n v) ≡ true = and_left (points f n (last_card n v)) _ sound-there in

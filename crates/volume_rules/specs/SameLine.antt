@@ -1,39 +1,40 @@
 -- Two headers of the same line: equal names without trailing blanks and equal sequence numbers, as fields 1 and 2 of H0000 are read.
-use Rattle.std.specs.Prelude.{ℕ, zero, suc, Bool, false, ◌&&◌, ◌||◌, List, take, drop, eqb, ℤ, pos, negsuc, nat_abs}
+use Rattle.std.specs.Prelude.{ℕ, zero, suc, Bool, false, ◌&&◌, ◌||◌, List, take, drop, eqb, ℤ, pos, negsuc, nat_abs, Result, Ok, Err}
 use Rattle.base_lists.specs.Parts.{alike}
 use Rattle.base_value.specs.declared.Value.TheVariants.{Absent, Whole, Decimal, Angle, Date, Text}
-use Rattle.base_value.specs.declared.Reading.{Reading}
-use Rattle.base_value.specs.declared.Reading.TheVariants.{Held, Malformed, OutOfRange}
+use Rattle.base_value.specs.declared.Unread.TheVariants.{Malformed, OutOfRange}
 use Rattle.value_text.specs.text.Texts.{text_of}
 use Rattle.value_field.specs.declared.spelling.Spelling.TheVariants as spelled
 use Rattle.value_field.specs.spelling.Reading.{reading_of}
 use Rattle.volume_form.specs.Marked.{name_of, sequence_of}
+use Rattle.base_value.specs.declared.Unread.{Unread}
+use Rattle.base_value.specs.declared.Value.{Value}
 
 -- the sort of a sequence number that was read: 0 for blanks, 1 for one from 0 up, 2 for one below zero, 3 for what is no number
 abbrev pub sign_in : ℤ → ℕ
 sign_in (pos n) = 1
 sign_in (negsuc n) = 2
 
-unfoldable pub sort_of : Reading → ℕ
-sort_of (Held Absent) = 0
-sort_of (Held (Whole z)) = sign_in z
-sort_of (Held (Decimal d)) = 3
-sort_of (Held (Angle z)) = 3
-sort_of (Held (Date d)) = 3
-sort_of (Held (Text c)) = 3
-sort_of Malformed = 3
-sort_of OutOfRange = 3
+unfoldable pub sort_of : Result Value Unread → ℕ
+sort_of (Ok Absent) = 0
+sort_of (Ok (Whole z)) = sign_in z
+sort_of (Ok (Decimal d)) = 3
+sort_of (Ok (Angle z)) = 3
+sort_of (Ok (Date d)) = 3
+sort_of (Ok (Text c)) = 3
+sort_of (Err Malformed) = 3
+sort_of (Err OutOfRange) = 3
 
 -- its size without the sign
-unfoldable pub size_of : Reading → ℕ
-size_of (Held Absent) = 0
-size_of (Held (Whole z)) = nat_abs z
-size_of (Held (Decimal d)) = 0
-size_of (Held (Angle z)) = 0
-size_of (Held (Date d)) = 0
-size_of (Held (Text c)) = 0
-size_of Malformed = 0
-size_of OutOfRange = 0
+unfoldable pub size_of : Result Value Unread → ℕ
+size_of (Ok Absent) = 0
+size_of (Ok (Whole z)) = nat_abs z
+size_of (Ok (Decimal d)) = 0
+size_of (Ok (Angle z)) = 0
+size_of (Ok (Date d)) = 0
+size_of (Ok (Text c)) = 0
+size_of (Err Malformed) = 0
+size_of (Err OutOfRange) = 0
 
 -- sequence numbers, as they stand in their columns, are equal by value; blank only to blank
 unfoldable pub same_number : List ℕ → List ℕ → Bool

@@ -1,13 +1,13 @@
 -- What a walk over columns from the back knows as it writes digits, and how many digits a number has.
-use Prim.Native.Nat.{ℕ, zero, suc, ◌+◌, ◌-◌, ◌*◌, ◌/◌, ◌%◌, ◌^◌, ◌≤◌, ◌<◌}
+use Prim.Native.Nat.{ℕ, zero, suc, ◌+◌, ◌-◌, ◌*◌, ◌/◌, ◌%◌, ◌^◌, ◌≤◌, ◌<◌, max}
 use native.Mathlib.Omega.{arith}
-use native.Mathlib.Nat.{pow-suc, pow-succ', div-div-eq-div-mul, div-one}
+use native.Mathlib.Nat.{pow-suc, pow-succ', one-le-pow, div-div-eq-div-mul, div-one}
 use mathlib.Core.Path.{◌≡◌, refl, sym, ap, ◌∙◌}
 use mathlib.Core.List.{List, [], ◌∷◌, ◌++◌, append_assoc}
 use native.Mathlib.Numerals.{add-one}
 use lib.ListN.{length, drop, set, length-append}
 use borrow.Author.Tests.{lt-ltb, le-ltb}
-use Rattle.base_digits.specs.digits.Digits.{digits, size_up_to}
+use Rattle.base_digits.specs.digits.Digits.{digits, size_up_to, size}
 use Rattle.base_digits.proofs.digits.Parts.{placed}
 
 -- one more digit written before those that stand
@@ -37,27 +37,27 @@ two_more (suc (suc k)) n h l = omega arith
 pub tenth : (k n : ℕ) → n < 10 ^ suc k → n / 10 < 10 ^ k
 tenth k n h = let l : n < 10 ^ k * 10 = rw (pow-suc 10 k) at h in omega arith
 
--- counting goes on while the rest has two digits: k of them counted, at most m of them in all
-module _ (k m n : ℕ) (more : 10 ≤ n) (below : n < 10 ^ (m - k)) where
-  pub size_room : k + 2 ≤ m
-  size_room = let h : 2 ≤ m - k = two_more (m - k) n more below in omega arith
-
-  pub size_goes : k + size_up_to (m - k) n ≡ k + 1 + size_up_to (m - (k + 1)) (n / 10)
-  unfolding size_up_to
-  size_goes =
-      let e : m - k ≡ suc (m - (k + 1)) = let h : k + 2 ≤ m = size_room in omega arith in
-      rw (e, le-ltb n 10 more) (omega arith)
-
-  pub size_below : n / 10 < 10 ^ (m - (k + 1))
-  size_below =
-      let e : m - k ≡ suc (m - (k + 1)) = let h : k + 2 ≤ m = size_room in omega arith in
-      tenth (m - (k + 1)) n (rw e at below)
-
-pub size-ends : (k m n : ℕ) → k < m → n < 10 → k + size_up_to (m - k) n ≡ k + 1
+-- a number from 10 ^ k up to below 10 ^ (k + 1) has k + 1 digits
+size_known : (m k n : ℕ) → k < m → 10 ^ k ≤ n → n < 10 * 10 ^ k → size_up_to m n ≡ k + 1
 unfolding size_up_to
-size-ends k m n more h =
-    let e : m - k ≡ suc (m - (k + 1)) = omega arith in
-    rw (e, lt-ltb n 10 h)
+size_known zero k n h least most = absurd (omega arith)
+size_known (suc m) zero n h least most = rw (lt-ltb n 10 most)
+size_known (suc m) (suc k) n h least most =
+    let e : 10 ^ suc k ≡ 10 * 10 ^ k = pow-succ' 10 k in
+    let low : 10 * 10 ^ k ≤ n = rw e at least in
+    let high : n < 10 * (10 * 10 ^ k) = rw e at most in
+    let one : 1 ≤ 10 ^ k = one-le-pow k 10 (omega arith) in
+    rw (le-ltb n 10 (omega arith), size_known m k (n / 10) (omega arith) (omega arith) (omega arith)) (omega arith)
+
+-- the same for zero too, which has as many as one
+pub size_is : (n k : ℕ) → k < 20 → 10 ^ k ≤ max n 1 → max n 1 < 10 * 10 ^ k → size n ≡ k + 1
+unfolding size_up_to
+size_is zero zero h least most = refl
+size_is zero (suc k) h least most =
+    let e : 10 ^ suc k ≡ 10 * 10 ^ k = pow-succ' 10 k in
+    let one : 1 ≤ 10 ^ k = one-le-pow k 10 (omega arith) in
+    absurd (omega arith)
+size_is (suc n) k h least most = size_known 20 k (suc n) h (omega arith) (omega arith)
 
 -- the walk has come to the first column
 pub columns-done : (i n : ℕ) (s : List ℕ) → i ≤ 0 → digits i n ++ drop i s ≡ s

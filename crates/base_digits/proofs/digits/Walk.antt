@@ -1,7 +1,7 @@
 -- What a walk over columns from the front knows at each step: over the digits of a number, and over the blanks before it.
 use Prim.Native.Nat.{ℕ, zero, suc, ◌+◌, ◌-◌, ◌*◌, ◌≤◌, ◌<◌}
 use native.Mathlib.Omega.{arith}
-use native.Mathlib.Numerals.{add-one}
+use native.Mathlib.Numerals.{add-one, one-add}
 use native.Mathlib.Nat.{zero-add, add-zero}
 use mathlib.Core.Path.{◌≡◌, refl, sym, ap, ap₂, ◌∙◌}
 use mathlib.Core.List.{List, [], ◌∷◌, ◌++◌}
@@ -9,7 +9,8 @@ use mathlib.Core.Bool.{Bool, true, false, cond}
 use lib.ListN.{length, get_or, take, drop, replicate, drop_of_length-le}
 use lib.Seq.{drop-cons, take-length}
 use lib.Dec.{eqb}
-use borrow.Author.Tests.{le-leb, lt-leb, eq-eqb, ne_eqb, eqb-true}
+use Rattle.std.specs.List.{prefix_len}
+use borrow.Author.Tests.{le-leb, lt-leb, eqb-true}
 use Rattle.base_digits.specs.declared.digits.Run.{Run}
 use Rattle.base_digits.specs.digits.Figures.{is_digit, blanks, unpadded, leading, value_from, limit, capped, run_of}
 
@@ -58,18 +59,11 @@ pub run_ends : (n i : ℕ) (s : List ℕ) → n ≤ limit → length s ≤ i →
 unfolding run_from leading value_from
 run_ends n i s h e = rw (drop_of_length-le s e) (same_run (omega arith) (add-zero i))
 
-module _ (i : ℕ) (s : List ℕ) where
-  pub blanks_stop : i < length s → (get_or s i 0 ≡ 32 → ⊥) → i ≡ i + blanks (drop i s)
-  unfolding blanks
-  blanks_stop inside d = rw (drop-cons s i 0 inside, ne_eqb (get_or s i 0) 32 d) (sym (add-zero i))
-
-  pub blanks_go : i < length s → get_or s i 0 ≡ 32 → i + blanks (drop i s) ≡ i + 1 + blanks (drop (i + 1) s)
-  unfolding blanks
-  blanks_go inside d = rw (drop-cons s i 0 inside, eq-eqb (get_or s i 0) 32 d, add-one i) (omega arith)
-
-  pub blanks_end : length s ≤ i → i ≡ i + blanks (drop i s)
-  unfolding blanks
-  blanks_end e = rw (drop_of_length-le s e) (sym (add-zero i))
+-- how many blanks stand at the front, as an iterator takes them
+pub blanks_are : (s : List ℕ) → prefix_len (λ b. eqb b 32) s ≡ blanks s
+unfolding blanks
+blanks_are [] = refl
+blanks_are (b ∷ s) = rw (blanks_are s, one-add)
 
 -- digits behind digits
 pub value_append : (n : ℕ) (s t : List ℕ) → value_from n (s ++ t) ≡ value_from (value_from n s) t

@@ -1,6 +1,6 @@
 -- `card_check::judge_columns` meets its contract.
 use mathlib.Core.Path.{◌≡◌}
-use Prim.Native.Nat.{◌≤◌, ◌-◌}
+use Prim.Native.Nat.{◌≤◌}
 use lib.ListN.{length, drop}
 use lib.Dec.{T}
 use Rattle.format_layout.proofs.Columns.{is_in_order}
@@ -8,8 +8,7 @@ use Rattle.format_layout.specs.Layouts.{fields_of}
 use Rattle.card_check.specs.Judging.{column_offence, verdict_from}
 use Rattle.card_check.proofs.judge_columns.Given as goal
 
-abbrev pub invariant-loop-form : goal.invariant-loop-form
-invariant-loop-form l = (l.number ≤ length (fields_of l.layout)) × (1 ≤ l.column) × (l.column ≤ 81) × T (is_in_order l.column (drop l.number (fields_of l.layout))) × (verdict_from (column_offence l.layout l.form l.card (fields_of l.layout)) l.from ≡ verdict_from (column_offence l.layout l.form l.card (drop l.number (fields_of l.layout))) l.column)
-
-abbrev pub decreases-loop-form : goal.decreases-loop-form
-decreases-loop-form l = length (fields_of l.layout) - l.number
+abbrev pub invariant-loop-number : goal.invariant-loop-number
+invariant-loop-number l =
+    (l.number ≤ length (fields_of l.layout)) × (1 ≤ l.column) × (l.column ≤ 81) × T (is_in_order l.column (drop l.number (fields_of l.layout)))
+    × (verdict_from (column_offence l.layout l.form l.card (fields_of l.layout)) l.from ≡ verdict_from (column_offence l.layout l.form l.card (drop l.number (fields_of l.layout))) l.column)

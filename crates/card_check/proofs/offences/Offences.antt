@@ -7,8 +7,6 @@ use mathlib.Core.Bool.{Bool, true, false, cond, ◌&&◌, ◌||◌, not}
 use lib.ListN.{length, get_or, take, drop, length-take, length-drop}
 use lib.Dec.{T, eqb}
 use borrow.Author.Tests.{eq-eqb, ne_eqb}
-use denote.Enum.Declared.{tag_of}
-use types.Run.{OneOf, miss}
 use Rattle.value_number.specs.number.Reading.{number_of as strict_of}
 use Rattle.value_date.specs.Dates.{date_of}
 use Rattle.value_coordinate.specs.declared.axes.Axis.{Axis}
@@ -17,10 +15,8 @@ use Rattle.value_coordinate.specs.angle.Angles.{angle_of}
 use Rattle.value_coordinate.specs.grid.Grid.{grid_of}
 use Rattle.value_text.specs.text.Texts.{text_end, text_of, leading_blank}
 use Rattle.base_value.specs.declared.Value.{Value}
-use Rattle.base_value.specs.contracts.Value.{the_type}
 use Rattle.base_value.specs.declared.Value.TheVariants as value
-use Rattle.base_value.specs.declared.Reading.{Reading}
-use Rattle.base_value.specs.declared.Reading.TheVariants.{Held, Malformed, OutOfRange}
+use Rattle.base_value.specs.declared.Unread.TheVariants.{Malformed, OutOfRange}
 use Rattle.value_field.specs.spelling.Reading.{text_reading, number_in, whole_reading, reading_of}
 use Rattle.value_field.proofs.spelling.OneKind.{OfKind, number_kind, date_kind, angle_kind, grid_kind}
 use Rattle.format_layout.specs.declared.Kind.{Kind}
@@ -28,18 +24,18 @@ use Rattle.format_layout.specs.declared.Kind.TheVariants as kind
 use Rattle.format_layout.specs.declared.Field.{Field}
 use Rattle.format_layout.specs.declared.Form.{Form}
 use Rattle.format_layout.specs.declared.Form.TheVariants.{Angles, Grid, Unknown}
-use Rattle.format_layout.specs.Forms.{is_grid}
 use Rattle.format_layout.specs.Columns.{width, wide_as}
 use Rattle.format_layout.specs.ranges.Ranges.{in_range}
-use Rattle.card_field.specs.declared.judging.Judged.TheVariants.{Is, Not}
 use Rattle.card_field.specs.judging.Fields.{value_of, held_of, spelling_of, judged_of, number_of}
 use Rattle.card_field.specs.needing.Needs.{columns_of, is_blank, needed_on}
 use Rattle.card_check.specs.packed.Offences.{offence_in, coordinate_reading}
 use Rattle.base_value.specs.Reading.{offence_of}
+use Rattle.std.specs.Prelude.{Result, Ok, Err}
+use Rattle.base_value.specs.declared.Unread.{Unread}
 
 -- a text whose first column is filled
 filled : (x lead : Bool) (e : ℕ)
-    → offence_of (cond (eqb (cond (x && false) 0 (suc e)) 0) (Held value.Absent) (cond (lead || true) (Held (value.Text (record { first = 1; last = cond (x && false) 0 (suc e) }))) Malformed)) ≡ 0
+    → offence_of (cond (eqb (cond (x && false) 0 (suc e)) 0) (Ok value.Absent) (cond (lead || true) (Ok (value.Text (record { first = 1; last = cond (x && false) 0 (suc e) }))) (Err Malformed))) ≡ 0
 filled true true e = rw (ne_eqb (suc e) 0 (λ q. absurd (omega arith)))
 filled true false e = rw (ne_eqb (suc e) 0 (λ q. absurd (omega arith)))
 filled false true e = rw (ne_eqb (suc e) 0 (λ q. absurd (omega arith)))
@@ -55,54 +51,21 @@ unfolding leading_blank
 begins [] h g = absurd (omega arith)
 begins (b ∷ s) h g = eq-eqb b 32 g
 
--- columns that are blank, and those that are not
-module _ (s : List ℕ) (n : ℕ) (is : n ≡ text_end s) where
-  pub blank_is : n ≡ 0 → is_blank s ≡ true
-  unfolding is_blank
-  blank_is h = eq-eqb (text_end s) 0 (sym is ∙ h)
-
-  pub blank_not : (n ≡ 0 → ⊥) → is_blank s ≡ false
-  unfolding is_blank
-  blank_not h = ne_eqb (text_end s) 0 (λ q. h (is ∙ q))
+-- columns that are not blank
+pub blank_not : (s : List ℕ) (n : ℕ) → n ≡ text_end s → (n ≡ 0 → ⊥) → is_blank s ≡ false
+unfolding is_blank
+blank_not s n is h = ne_eqb (text_end s) 0 (λ q. h (is ∙ q))
 
 -- and one that begins with a blank
 module _ (s : List ℕ) (lead : Bool) where
-  pub text-missing : is_blank s ≡ true → offence_of (text_reading lead s) ≡ 11
-  unfolding text_reading is_blank
-  text-missing h = rw h
-
-  pub text_led : is_blank s ≡ false → lead ≡ true → offence_of (text_reading lead s) ≡ 0
-  unfolding text_reading is_blank
-  text_led h q = rw (h, q)
-
   pub text_odd : 1 ≤ length s → get_or s 0 0 ≡ 32 → is_blank s ≡ false → lead ≡ false → offence_of (text_reading lead s) ≡ 9
   unfolding text_reading is_blank
   text_odd l g h q = rw (h, q, begins s l g)
 
--- a value that is there has no offence of its own
-pub value_fine : (r : Reading) (v : Value) → r ≡ Held v → OneOf (1 ∷ 2 ∷ 3 ∷ 4 ∷ 5 ∷ []) (tag_of the_type v) → 0 ≡ offence_of r
-value_fine r v e h = go v h ∙ sym (ap offence_of e)
-  where
-    go : (v : Value) → OneOf (1 ∷ 2 ∷ 3 ∷ 4 ∷ 5 ∷ []) (tag_of the_type v) → 0 ≡ offence_of (Held v)
-    go value.Absent h = absurd (miss (1 ∷ 2 ∷ 3 ∷ 4 ∷ 5 ∷ []) 0 tt h)
-    go (value.Whole z) h = refl
-    go (value.Decimal d) h = refl
-    go (value.Angle z) h = refl
-    go (value.Date d) h = refl
-    go (value.Text c) h = refl
-
--- a coordinate in one form and the other
-module _ (a : Axis) (s : List ℕ) (form : Form) where
-  pub by_grid : is_grid form ≡ true → (r : Reading) → r ≡ grid_of a s → offence_of r ≡ offence_of (coordinate_reading a form s)
-  by_grid h r q = rw (h, q)
-
-  pub by_angle : is_grid form ≡ false → (r : Reading) → r ≡ angle_of a s → offence_of r ≡ offence_of (coordinate_reading a form s)
-  by_angle h r q = rw (h, q)
-
 -- each kind by its own reading
 module _ (f : Field) where
-  plain : {A : Type 0} (kind : A → Value) (r : Reading) → OfKind kind r
-      → ((x : A) → offence_of (Held (kind x)) ≡ offence_in f (Held (kind x))) → offence_of r ≡ offence_in f r
+  plain : {A : Type 0} (kind : A → Value) (r : Result Value Unread) → OfKind kind r
+      → ((x : A) → offence_of (Ok (kind x)) ≡ offence_in f (Ok (kind x))) → offence_of r ≡ offence_in f r
   unfolding offence_in held_of value_of
   plain kind r of-kind h = of-kind (λ x. offence_of x ≡ offence_in f x) refl h refl refl
 
@@ -127,8 +90,8 @@ module _ (f : Field) where
   text-plain lead s = go (eqb (text_end s) 0) (lead || not (leading_blank s))
     where
       go : (b c : Bool)
-          → offence_of (cond b (Held value.Absent) (cond c (Held (value.Text (record { first = 1; last = text_end s }))) Malformed))
-          ≡ number_of (held_of true f (cond b (Held value.Absent) (cond c (Held (value.Text (record { first = 1; last = text_end s }))) Malformed)))
+          → offence_of (cond b (Ok value.Absent) (cond c (Ok (value.Text (record { first = 1; last = text_end s }))) (Err Malformed)))
+          ≡ number_of (held_of true f (cond b (Ok value.Absent) (cond c (Ok (value.Text (record { first = 1; last = text_end s }))) (Err Malformed))))
       go true c = refl
       go false true = refl
       go false false = refl
@@ -153,7 +116,7 @@ module _ (f : Field) where
     unfolding reading_of number_in spelling_of
     as_decimal q = decimal-plain (text_of s) ∙ by_kind kind.Decimal q
 
-    pub as_date : f.kind ≡ kind.Date → (r : Reading) → r ≡ date_of s → offence_of r ≡ offence_in f (reading_of (spelling_of f.kind form) s)
+    pub as_date : f.kind ≡ kind.Date → (r : Result Value Unread) → r ≡ date_of s → offence_of r ≡ offence_in f (reading_of (spelling_of f.kind form) s)
     unfolding reading_of spelling_of
     as_date q r e = ap offence_of e ∙ date-plain s ∙ by_kind kind.Date q
 
@@ -176,23 +139,23 @@ module _ (f : Field) where
         go Unknown = angle_plain X s
 
 -- a field that is not needed may be blank, and has no other offence than one that is
-by_need : (needed : Bool) (f : Field) (r : Reading) → number_of (held_of needed f r) ≡ cond (eqb (offence_in f r) 11) (cond needed 11 0) (offence_in f r)
+by_need : (needed : Bool) (f : Field) (r : Result Value Unread) → number_of (held_of needed f r) ≡ cond (eqb (offence_in f r) 11) (cond needed 11 0) (offence_in f r)
 unfolding offence_in held_of value_of
-by_need needed f Malformed = refl
-by_need needed f OutOfRange = refl
-by_need true f (Held value.Absent) = refl
-by_need false f (Held value.Absent) = refl
-by_need needed f (Held (value.Whole z)) = go (in_range f.range z)
+by_need needed f (Err Malformed) = refl
+by_need needed f (Err OutOfRange) = refl
+by_need true f (Ok value.Absent) = refl
+by_need false f (Ok value.Absent) = refl
+by_need needed f (Ok (value.Whole z)) = go (in_range f.range z)
   where
     go : (b : Bool)
-        → number_of (cond b (Is (value.Whole z)) (Not 10))
-        ≡ cond (eqb (number_of (cond b (Is (value.Whole z)) (Not 10))) 11) (cond needed 11 0) (number_of (cond b (Is (value.Whole z)) (Not 10)))
+        → number_of (cond b (Ok (value.Whole z)) (Err 10))
+        ≡ cond (eqb (number_of (cond b (Ok (value.Whole z)) (Err 10))) 11) (cond needed 11 0) (number_of (cond b (Ok (value.Whole z)) (Err 10)))
     go true = refl
     go false = refl
-by_need needed f (Held (value.Decimal d)) = refl
-by_need needed f (Held (value.Angle z)) = refl
-by_need needed f (Held (value.Date d)) = refl
-by_need needed f (Held (value.Text c)) = refl
+by_need needed f (Ok (value.Decimal d)) = refl
+by_need needed f (Ok (value.Angle z)) = refl
+by_need needed f (Ok (value.Date d)) = refl
+by_need needed f (Ok (value.Text c)) = refl
 
 module _ (k : ℕ) (s : List ℕ) (f : Field) (form : Form) (first last n : ℕ) (from : first ≡ f.first) (to : last ≡ f.last)
     (is : n ≡ offence_in f (reading_of (spelling_of f.kind form) (take (last - (first - 1)) (drop (first - 1) s)))) where

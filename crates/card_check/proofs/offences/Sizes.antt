@@ -16,15 +16,15 @@ use Rattle.format_layout.specs.declared.Kind.{Kind}
 use Rattle.format_layout.specs.declared.Kind.TheVariants.{Decimal}
 use Rattle.format_layout.specs.Columns.{wide_as}
 use Rattle.format_layout.specs.ranges.Ranges.{in_range}
-use Rattle.card_field.specs.declared.judging.Judged.TheVariants.{Is, Not}
 use Rattle.card_field.specs.judging.Fields.{value_of, held_of, number_of}
 use Rattle.card_check.specs.packed.Offences.{offence_in}
+use Rattle.std.specs.Prelude.{Ok, Err}
 
 -- the offence of a value is that of its range
-of_value : (f : Field) (z : ℤ) → cond (in_range f.range z) 0 10 ≡ number_of (cond (in_range f.range z) (Is (value.Whole z)) (Not 10))
+of_value : (f : Field) (z : ℤ) → cond (in_range f.range z) 0 10 ≡ number_of (cond (in_range f.range z) (Ok (value.Whole z)) (Err 10))
 of_value f z = go (in_range f.range z)
   where
-    go : (b : Bool) → cond b 0 10 ≡ number_of (cond b (Is (value.Whole z)) (Not 10))
+    go : (b : Bool) → cond b 0 10 ≡ number_of (cond b (Ok (value.Whole z)) (Err 10))
     go true = refl
     go false = refl
 
@@ -89,7 +89,7 @@ module _ (f : Field) (size : ℕ) (s : List ℕ) (is : size ≡ size_of (strict_
       (λ e. absurd (omega arith))
       is
     where
-      go : (z : ℤ) → size ≡ sized z → cond (in_range f.range (negsuc 0)) 0 10 ≡ number_of (cond (in_range f.range z) (Is (value.Whole z)) (Not 10))
+      go : (z : ℤ) → size ≡ sized z → cond (in_range f.range (negsuc 0)) 0 10 ≡ number_of (cond (in_range f.range z) (Ok (value.Whole z)) (Err 10))
       go (pos m) q = absurd (omega arith)
       go (negsuc m) q = of_value f (negsuc m)
 

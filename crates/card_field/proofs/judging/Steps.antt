@@ -16,8 +16,7 @@ use Rattle.value_text.proofs.text.Agreed.{end_le}
 use Rattle.base_value.specs.declared.Columns.{Columns}
 use Rattle.base_value.specs.declared.Value.{Value}
 use Rattle.base_value.specs.declared.Value.TheVariants as value
-use Rattle.base_value.specs.declared.Reading.{Reading}
-use Rattle.base_value.specs.declared.Reading.TheVariants as reading
+use Rattle.base_value.specs.declared.Unread.TheVariants as unread
 use Rattle.value_field.specs.declared.spelling.Spelling.{Spelling}
 use Rattle.value_field.specs.declared.spelling.Spelling.TheVariants as spelled
 use Rattle.value_field.specs.spelling.Reading.{text_reading, number_in, whole_reading, reading_of, misplaced_in}
@@ -27,9 +26,10 @@ use Rattle.format_layout.specs.declared.Form.{Form}
 use Rattle.format_layout.specs.declared.Kind.{Kind}
 use Rattle.format_layout.specs.declared.Range.{Range}
 use Rattle.format_layout.specs.ranges.Ranges.{in_range}
-use Rattle.card_field.specs.declared.judging.Judged.TheVariants as judged
 use Rattle.card_field.specs.needing.Needs.{columns_of, needed_on}
 use Rattle.card_field.specs.judging.Fields.{read_last, value_of, held_of, spelling_of, judged_of, misplaced_on}
+use Rattle.std.specs.Prelude.{Result, Ok, Err}
+use Rattle.base_value.specs.declared.Unread.{Unread}
 
 -- a text that was read ends in its columns
 module _ (s : List ℕ) where
@@ -40,7 +40,7 @@ module _ (s : List ℕ) where
   unfolding whole_reading
   whole-last = none (number_in_kind false s (λ r. read_last (whole_reading r) ≡ 0) refl (λ d. refl) refl refl)
 
-  kind_last : {A : Type 0} (kind : A → Value) (r : Reading) → OfKind kind r → ((x : A) → read_last (reading.Held (kind x)) ≡ 0) → read_last r ≤ length s
+  kind_last : {A : Type 0} (kind : A → Value) (r : Result Value Unread) → OfKind kind r → ((x : A) → read_last (Ok (kind x)) ≡ 0) → read_last r ≤ length s
   kind_last kind r of-kind h = none (of-kind (λ x. read_last x ≡ 0) refl h refl refl)
 
   text-last : (lead : Bool) → read_last (text_reading lead s) ≤ length s
@@ -48,7 +48,7 @@ module _ (s : List ℕ) where
   text-last lead = go (eqb (text_end s) 0) (lead || not (leading_blank s))
     where
       go : (b c : Bool)
-          → read_last (cond b (reading.Held value.Absent) (cond c (reading.Held (value.Text (record { first = 1; last = text_end s }))) reading.Malformed)) ≤ length s
+          → read_last (cond b (Ok value.Absent) (cond c (Ok (value.Text (record { first = 1; last = text_end s }))) (Err unread.Malformed))) ≤ length s
       go true c = omega arith
       go false true = end_le s
       go false false = omega arith
@@ -67,25 +67,25 @@ module _ (s : List ℕ) where
 
 -- a value held against need and range
 module _ (needed : Bool) (f : Field) (v : Value) where
-  pub value_missing : v ≡ value.Absent → needed ≡ true → value_of needed f v ≡ judged.Not 11
+  pub value_missing : v ≡ value.Absent → needed ≡ true → value_of needed f v ≡ Err 11
   unfolding value_of
   value_missing q h = rw (q, h)
 
-  pub value_absent : v ≡ value.Absent → needed ≡ false → value_of needed f v ≡ judged.Is value.Absent
+  pub value_absent : v ≡ value.Absent → needed ≡ false → value_of needed f v ≡ Ok value.Absent
   unfolding value_of
   value_absent q h = rw (q, h)
 
   module _ (z y : ℤ) (q : v ≡ value.Whole z) (e : y ≡ z) (g : Range) (r : g ≡ f.range) where
-    pub value_within : in_range g y ≡ true → value_of needed f v ≡ judged.Is (value.Whole y)
+    pub value_within : in_range g y ≡ true → value_of needed f v ≡ Ok (value.Whole y)
     unfolding value_of
     value_within h = rw (q, ← e, ← r, h)
 
-    pub value_outside : in_range g y ≡ false → value_of needed f v ≡ judged.Not 10
+    pub value_outside : in_range g y ≡ false → value_of needed f v ≡ Err 10
     unfolding value_of
     value_outside h = rw (q, ← e, ← r, h)
 
   pub value_text : (c : Columns) → v ≡ value.Text c → (first : ℕ) → first ≡ f.first
-      → value_of needed f v ≡ judged.Is (value.Text (record { first = first; last = first - 1 + c.last }))
+      → value_of needed f v ≡ Ok (value.Text (record { first = first; last = first - 1 + c.last }))
   unfolding value_of
   value_text c q first e = rw (q, ← e)
 
@@ -98,7 +98,7 @@ columns-few s t first last h e =
 -- what judging a field puts together
 pub judged_is : (k : ℕ) (s : List ℕ) (f : Field) (form : Form) (first last : ℕ) → first ≡ f.first → last ≡ f.last
     → (t : List ℕ) → t ≡ take (last - (first - 1)) (drop (first - 1) s) → (d : Kind) → d ≡ f.kind → (x : Spelling) → x ≡ spelling_of d form
-    → (r : Reading) → r ≡ reading_of x t → held_of (needed_on k s f) f r ≡ judged_of k s f form
+    → (r : Result Value Unread) → r ≡ reading_of x t → held_of (needed_on k s f) f r ≡ judged_of k s f form
 unfolding judged_of columns_of
 judged_is k s f form first last a b t c d e x g r h = rw (h, g, e, c, a, b)
 

@@ -1,19 +1,18 @@
 -- What each way to a field's need finds.
-use Prim.Native.Nat.{ℕ, suc, ◌+◌, ◌-◌, ◌≤◌, ◌<◌}
+use Prim.Native.Nat.{ℕ, suc, ◌+◌, ◌≤◌, ◌<◌}
 use native.Mathlib.Omega.{arith}
 use native.Mathlib.Numerals.{add-one}
 use mathlib.Core.Path.{◌≡◌, refl, sym, ap, ap₂, ◌∙◌}
 use mathlib.Core.List.{List, [], ◌∷◌}
-use mathlib.Core.Bool.{Bool, true, false, ◌&&◌, ◌||◌, not}
-use lib.ListN.{length, get_or, take, drop, drop_of_length-le}
+use mathlib.Core.Bool.{Bool, false, ◌&&◌, ◌||◌, not}
+use lib.ListN.{length, get_or, drop, drop_of_length-le}
 use lib.Seq.{drop-cons}
 use lib.Dec.{eqb}
 use borrow.Author.Tests.{le-leb, ne_eqb}
 use Rattle.format_layout.specs.declared.Field.{Field}
-use Rattle.format_layout.specs.declared.Found.{Found}
-use Rattle.format_layout.specs.declared.Found.TheVariants as found
 use Rattle.format_layout.specs.Layouts.{field_of, fields_of, no_field}
-use Rattle.card_field.specs.needing.Needs.{second_at, second_by, any_second, other_second, columns_of, is_blank, needed_on, needed_after}
+use Rattle.card_field.specs.needing.Needs.{second_at, second_by, any_second, other_second, needed_on, needed_after}
+use Rattle.std.specs.Prelude.{Option, Some, None}
 
 -- the second set but for one field, field by field
 other_more : (s : List ℕ) (n m : ℕ) (fs : List Field) (i : ℕ) → i < length fs
@@ -22,11 +21,11 @@ unfolding other_second
 other_more s n m fs i h = rw (drop-cons fs i no_field h, add-one i)
 
 module _ (s : List ℕ) (k n i : ℕ) (inside : i < length (fields_of k)) where
-  numbered : field_of k (i + 1) ≡ found.Is (get_or (fields_of k) i no_field)
+  numbered : field_of k (i + 1) ≡ Some (get_or (fields_of k) i no_field)
   unfolding field_of
   numbered =
       rw (le-leb 1 (i + 1) (omega arith), le-leb (i + 1) (length (fields_of k)) (omega arith))
-      (ap (λ j. found.Is (get_or (fields_of k) j no_field)) (omega arith))
+      (ap (λ j. Some (get_or (fields_of k) j no_field)) (omega arith))
 
   by_number : second_by s (field_of k (i + 1)) ≡ second_at s (get_or (fields_of k) i no_field)
   unfolding second_by
@@ -43,19 +42,6 @@ pub other-over : (s : List ℕ) (k n m i : ℕ) → length (fields_of k) ≤ i �
 unfolding other_second
 other-over s k n m i h = rw (drop_of_length-le (fields_of k) h)
 
-module _ (k : ℕ) (s : List ℕ) (n : ℕ) (f : Field) where
-  pub after_none : f.needed ≡ false → needed_after k s n f ≡ false
-  unfolding needed_after
-  after_none h = rw h
-
-  pub after_first : f.needed ≡ true → f.second ≡ false → needed_after k s n f ≡ true
-  unfolding needed_after
-  after_first h g = rw (h, g)
-
-  pub after_second : f.needed ≡ true → f.second ≡ true → needed_after k s n f ≡ other_second s n 1 (fields_of k)
-  unfolding needed_after
-  after_second h g = rw (h, g)
-
 -- no field has the number 0
 none_left_out : (s : List ℕ) (m : ℕ) (fs : List Field) → other_second s 0 (suc m) fs ≡ any_second s fs
 unfolding other_second any_second
@@ -66,19 +52,10 @@ pub need_now : (k : ℕ) (s : List ℕ) (f : Field) → needed_after k s 0 f ≡
 unfolding needed_after needed_on
 need_now k s f = ap (λ b. f.needed && (not f.second || b)) (none_left_out s 0 (fields_of k))
 
-pub second_none : (s : List ℕ) (o : Found) → o ≡ found.Nothing → second_by s o ≡ false
+pub second_none : (s : List ℕ) (o : Option Field) → o ≡ None → second_by s o ≡ false
 unfolding second_by
 second_none s o q = rw q
 
-pub second_is : (s : List ℕ) (o : Found) (f : Field) → o ≡ found.Is f → second_by s o ≡ second_at s f
+pub second_is : (s : List ℕ) (o : Option Field) (f : Field) → o ≡ Some f → second_by s o ≡ second_at s f
 unfolding second_by
 second_is s o f q = rw q
-
-module _ (s : List ℕ) (f : Field) where
-  pub second-first : f.second ≡ false → second_at s f ≡ false
-  second-first h = rw h
-
-  pub second-columns : f.second ≡ true → (t : List ℕ) → t ≡ take (f.last - (f.first - 1)) (drop (f.first - 1) s)
-      → second_at s f ≡ not (is_blank t)
-  unfolding columns_of
-  second-columns h t q = rw (h, q)

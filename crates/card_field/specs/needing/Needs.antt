@@ -1,9 +1,7 @@
 -- Whether a field of a card is needed: its columns, the second set, the need as the card stands and once the field is blank.
-use Rattle.std.specs.Prelude.{ℕ, suc, ◌-◌, List, [], ◌∷◌, Bool, false, ◌&&◌, ◌||◌, not, take, drop, eqb}
+use Rattle.std.specs.Prelude.{ℕ, suc, ◌-◌, List, [], ◌∷◌, Bool, false, ◌&&◌, ◌||◌, not, take, drop, eqb, Option, Some, None}
 use Rattle.value_text.specs.text.Texts.{text_end}
 use Rattle.format_layout.specs.declared.Field.{Field}
-use Rattle.format_layout.specs.declared.Found.{Found}
-use Rattle.format_layout.specs.declared.Found.TheVariants as found
 use Rattle.format_layout.specs.Layouts.{fields_of}
 
 -- a field's columns
@@ -17,9 +15,9 @@ is_blank t = eqb (text_end t) 0
 abbrev pub second_at : List ℕ → Field → Bool
 second_at s f = f.second && not (is_blank (columns_of f s))
 
-unfoldable pub second_by : List ℕ → Found → Bool
-second_by s found.Nothing = false
-second_by s (found.Is f) = second_at s f
+unfoldable pub second_by : List ℕ → Option Field → Bool
+second_by s None = false
+second_by s (Some f) = second_at s f
 
 unfoldable pub any_second : List ℕ → List Field → Bool
 any_second s [] = false

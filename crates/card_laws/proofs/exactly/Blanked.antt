@@ -16,16 +16,16 @@ use Rattle.format_layout.specs.declared.Field.{Field}
 use Rattle.format_layout.specs.Layouts.{fields_of, no_field}
 use Rattle.format_layout.proofs.Columns.{Lies, after_label, ends-before}
 use Rattle.format_layout.proofs.Numbers.{numbered, found_lies}
-use Rattle.card_field.specs.declared.seeking.Sought.TheVariants as sought
 use Rattle.card_field.specs.seeking.Card.{sought_of}
-use Rattle.card_field.specs.needing.Needs.{columns_of, is_blank, second_at, any_second}
+use Rattle.card_field.specs.needing.Needs.{columns_of, is_blank, second_at, any_second, other_second, needed_after}
 use Rattle.card_field.proofs.seeking.Steps.{found-there}
 use Rattle.format_layout.specs.Columns.{width}
 use Rattle.card_put.specs.Putting.{placed_in}
-use Rattle.card_field.specs.needing.Needs.{other_second, needed_after}
 use Rattle.card_put.proofs.Back.{still_there, now_holds}
 use Rattle.card_laws.specs.exactly.Words.{is_needed, blanked_in}
 use Rattle.card_laws.proofs.exactly.Way.{found-fields}
+use Rattle.std.specs.Prelude.{Ok}
+use Rattle.card_field.specs.seeking.Found.{sought}
 
 -- a part of two lists that are the same up to its end, or from its start
 part-before : (a b m : ℕ) (u v : List ℕ) → b + a ≤ m → b ≤ length u → b ≤ length v → take m u ≡ take m v
@@ -62,7 +62,7 @@ walk s t n i (f ∷ fs) h =
     (walk s t n (suc i) fs
     (λ j l. h (suc j) (omega arith) ∙ ap (λ x. not (eqb x n) && second_at s (get_or fs j no_field)) (omega arith)))
 
-module _ (s : List ℕ) (n form k : ℕ) (f : Field) (q : sought_of s n form ≡ sought.Is k f) where
+module _ (s : List ℕ) (n form k : ℕ) (f : Field) (q : sought_of s n form ≡ Ok (sought k f)) where
   whole : length s ≡ 80
   whole = (found-there s n form k f q).whole
 
@@ -75,7 +75,7 @@ module _ (s : List ℕ) (n form k : ℕ) (f : Field) (q : sought_of s n form ≡
   wide = length-replicate (width f) 32
 
   -- the field is found again, and it is blank
-  found-again : sought_of (blanked_in f s) n form ≡ sought.Is k f
+  found-again : sought_of (blanked_in f s) n form ≡ Ok (sought k f)
   unfolding blanked_in
   found-again = still_there s n form k f q (replicate (width f) 32) wide (blank_printable (width f))
 

@@ -5,7 +5,6 @@ use native.Mathlib.Numerals.{add-one}
 use native.Mathlib.Decide.{ℕ_discrete}
 use mathlib.Core.Path.{◌≡◌, refl, sym, ap, ap₂, ◌∙◌}
 use mathlib.Core.List.{List}
-use mathlib.Core.Option.{Option, none, some}
 use mathlib.Core.Logic.{◌↔◌}
 use mathlib.Core.Bool.{Bool, true, false, cond, not}
 use lib.ListN.{length, take}
@@ -17,13 +16,9 @@ use Rattle.format_code.specs.declared.Code.{Code}
 use Rattle.format_code.specs.declared.Code.TheVariants as code
 use Rattle.format_code.specs.Codes.{code_of}
 use Rattle.base_refusal.specs.declared.Refusal.{Refusal}
-use Rattle.base_refusal.specs.Refusals.{refusal}
+use Rattle.base_refusal.specs.Refusals.{refusal, no_refusal}
 use Rattle.value_text.specs.printable.Bytes.{first_bad}
 use Rattle.format_layout.specs.declared.Form.{Form}
-use Rattle.card_put.specs.declared.opening.Opened.{Opened}
-use Rattle.card_put.specs.declared.opening.Opened.TheVariants as opened
-use Rattle.card_check.specs.declared.Verdict.{Verdict}
-use Rattle.card_check.specs.declared.Verdict.TheVariants.{Fine, Offence}
 use Rattle.card_put.specs.opening.Opening.{code_answer, opened_of}
 use Rattle.card_check.specs.Judging.{offence_at, verdict_from, code_verdict, verdict_of}
 use Rattle.card_check.proofs.Leftmost.{decides, passes, ends}
@@ -33,10 +28,13 @@ use Rattle.card_laws.specs.exactly.Tables.{column_rows, columns_from, open_rows,
 use Rattle.card_laws.proofs.exactly.Given.{or_else, given-append, exactly}
 use Rattle.card_laws.proofs.exactly.Columns.{marked, column_rows_lem, not-read}
 use Rattle.card_laws.proofs.exactly.Way.{bad-byte}
+use Rattle.std.specs.Prelude.{Result, Ok, Err, ⊤, Option, None, Some}
+use Rattle.card_check.specs.declared.Offence.{Offence}
+use Rattle.card_check.specs.Verdicts.{offending}
 
 -- opening a card
 
-open_code : (c : Code) → in_opening (code_answer c) ≡ cond (is_unknown c) (some (refusal 5 1 1)) none
+open_code : (c : Code) → in_opening (code_answer c) ≡ cond (is_unknown c) (Some (refusal 5 1 1)) None
 unfolding code_answer
 open_code code.Unknown = refl
 open_code code.Passed = refl
@@ -48,25 +46,25 @@ unfolding opened_of open_rows given
 opening_given text size = go (eqb size 0) (eqb size 80)
   where
     go : (a b : Bool)
-        → in_opening (cond a (opened.Refused (refusal 1 0 0))
-        (cond (not b) (opened.Refused (refusal 2 0 0)) (code_answer (code_of text))))
-        ≡ cond a (some (refusal 1 0 0))
-        (cond (not b) (some (refusal 2 0 0)) (cond (is_unknown (code_of text)) (some (refusal 5 1 1)) none))
+        → in_opening (cond a (Err (refusal 1 0 0))
+        (cond (not b) (Err (refusal 2 0 0)) (code_answer (code_of text))))
+        ≡ cond a (Some (refusal 1 0 0))
+        (cond (not b) (Some (refusal 2 0 0)) (cond (is_unknown (code_of text)) (Some (refusal 5 1 1)) None))
     go true b = refl
     go false false = refl
     go false true = open_code (code_of text)
 
-refused_as : (a : Opened) (r : Refusal) → (a ≡ opened.Refused r) ↔ (in_opening a ≡ some r)
-refused_as opened.Done r = (λ e. absurd (zero_one cc), λ e. absurd (zero_one cc))
-refused_as (opened.Refused q) r = (λ e. ap in_opening e, λ e. let x : q ≡ r = cc in ap opened.Refused x)
+refused_as : (a : Result ⊤ Refusal) (r : Refusal) → (a ≡ Err r) ↔ (in_opening a ≡ Some r)
+refused_as (Ok _) r = (λ e. absurd (zero_one cc), λ e. absurd (zero_one cc))
+refused_as (Err q) r = (λ e. ap in_opening e, λ e. let x : q ≡ r = cc in ap Err x)
 
-done_as : (a : Opened) → (a ≡ opened.Done) ↔ (in_opening a ≡ none)
-done_as opened.Done = (λ e. refl, λ e. refl)
-done_as (opened.Refused q) = (λ e. absurd (zero_one cc), λ e. absurd (zero_one cc))
+done_as : (a : Result ⊤ Refusal) → (a ≡ no_refusal) ↔ (in_opening a ≡ None)
+done_as (Ok _) = (λ e. refl, λ e. refl)
+done_as (Err q) = (λ e. absurd (zero_one cc), λ e. absurd (zero_one cc))
 
 -- opening a card of so many bytes with a code
 pub opening_exactly : (text : List ℕ) (size : ℕ)
-    → Exactly (open_rows text size) (λ r. opened_of text size ≡ opened.Refused r) (opened_of text size ≡ opened.Done)
+    → Exactly (open_rows text size) (λ r. opened_of text size ≡ Err r) (opened_of text size ≡ no_refusal)
 opening_exactly text size =
     let a = opened_of text size in
     exactly (open_rows text size) (in_opening a) (opening_given text size) (refused_as a) (done_as a)
@@ -74,7 +72,7 @@ opening_exactly text size =
 -- judging a card
 
 -- a passed or unknown code has no row for its columns
-no_columns : (s : List ℕ) (form : Form) → is_read (code_of (take 5 s)) ≡ false → (m c : ℕ) → given (columns_from form s m c) ≡ none
+no_columns : (s : List ℕ) (form : Form) → is_read (code_of (take 5 s)) ≡ false → (m c : ℕ) → given (columns_from form s m c) ≡ None
 unfolding columns_from given
 no_columns s form h zero c = refl
 no_columns s form h (suc m) c =
@@ -95,7 +93,7 @@ columns-given s form k q (suc m) c l h =
     ∙ ap (λ o. or_else o (given (columns_from form s m (suc c)))) (sym (column_rows_lem s form k q c))
     ∙ sym (given-append (column_rows form s c) (columns_from form s m (suc c)))
   where
-    placed : (n c : ℕ) → 6 ≤ c → in_verdict (Offence n c) ≡ some (refusal n 1 c)
+    placed : (n c : ℕ) → 6 ≤ c → in_verdict (Err (offending n c)) ≡ Some (refusal n 1 c)
     placed n zero a = absurd (omega arith)
     placed n (suc c) a = refl
 
@@ -107,7 +105,7 @@ columns-given s form k q (suc m) c l h =
     ]
 
 code-given : (s : List ℕ) (form : Form) (c : Code) → code_of (take 5 s) ≡ c
-    → in_verdict (code_verdict c form s) ≡ cond (is_unknown c) (some (refusal 5 1 1)) (given (columns_from form s 75 6))
+    → in_verdict (code_verdict c form s) ≡ cond (is_unknown c) (Some (refusal 5 1 1)) (given (columns_from form s 75 6))
 unfolding code_verdict
 code-given s form code.Unknown q = refl
 code-given s form code.Passed q = sym (no_columns s form (ap is_read q) 75 6)
@@ -119,57 +117,57 @@ unfolding verdict_of judge_rows given
 verdict_given s form = none (eqb (length s) 0)
   where
     bytes : (p : Bool)
-        → in_verdict (cond (not p) (Offence 4 (first_bad s + 1)) (code_verdict (code_of (take 5 s)) form s))
-        ≡ cond (not p) (some (refusal 4 1 (first_bad s + 1))) (cond (is_unknown (code_of (take 5 s))) (some (refusal 5 1 1))
+        → in_verdict (cond (not p) (Err (offending 4 (first_bad s + 1))) (code_verdict (code_of (take 5 s)) form s))
+        ≡ cond (not p) (Some (refusal 4 1 (first_bad s + 1))) (cond (is_unknown (code_of (take 5 s))) (Some (refusal 5 1 1))
         (given (columns_from form s 75 6)))
     bytes true = code-given s form (code_of (take 5 s)) refl
     bytes false = rw (add-one (first_bad s))
 
     go : (b : Bool) → eqb (length s) 80 ≡ b
-        → in_verdict (cond (not b) (Offence 2 0)
-        (cond (ltb (first_bad s) 80) (Offence 4 (first_bad s + 1)) (code_verdict (code_of (take 5 s)) form s)))
-        ≡ cond (not b) (some (refusal 2 0 0))
-        (cond (not (printable s)) (some (refusal 4 1 (first_bad s + 1)))
-        (cond (is_unknown (code_of (take 5 s))) (some (refusal 5 1 1))
+        → in_verdict (cond (not b) (Err (offending 2 0))
+        (cond (ltb (first_bad s) 80) (Err (offending 4 (first_bad s + 1))) (code_verdict (code_of (take 5 s)) form s)))
+        ≡ cond (not b) (Some (refusal 2 0 0))
+        (cond (not (printable s)) (Some (refusal 4 1 (first_bad s + 1)))
+        (cond (is_unknown (code_of (take 5 s))) (Some (refusal 5 1 1))
         (given (columns_from form s 75 6))))
     go false q = refl
     go true q = rw (bad-byte s (eqb-true (length s) 80 q)) (bytes (printable s))
 
     none : (b : Bool)
-        → in_verdict (cond b (Offence 1 0) (cond (not (eqb (length s) 80)) (Offence 2 0)
-        (cond (ltb (first_bad s) 80) (Offence 4 (first_bad s + 1)) (code_verdict (code_of (take 5 s)) form s))))
-        ≡ cond b (some (refusal 1 0 0)) (cond (not (eqb (length s) 80)) (some (refusal 2 0 0))
-        (cond (not (printable s)) (some (refusal 4 1 (first_bad s + 1)))
-        (cond (is_unknown (code_of (take 5 s))) (some (refusal 5 1 1))
+        → in_verdict (cond b (Err (offending 1 0)) (cond (not (eqb (length s) 80)) (Err (offending 2 0))
+        (cond (ltb (first_bad s) 80) (Err (offending 4 (first_bad s + 1))) (code_verdict (code_of (take 5 s)) form s))))
+        ≡ cond b (Some (refusal 1 0 0)) (cond (not (eqb (length s) 80)) (Some (refusal 2 0 0))
+        (cond (not (printable s)) (Some (refusal 4 1 (first_bad s + 1)))
+        (cond (is_unknown (code_of (take 5 s))) (Some (refusal 5 1 1))
         (given (columns_from form s 75 6)))))
     none true = refl
     none false = go (eqb (length s) 80) refl
 
-offence_as : (v : Verdict) (r : Refusal)
-    → ((v ≡ Offence r.number r.column) × (r.card ≡ card_of r.column)) ↔ (in_verdict v ≡ some r)
-offence_as Fine r = (λ e. absurd (zero_one cc), λ e. absurd (zero_one cc))
-offence_as (Offence n c) r = (λ e. there n c e.0 e.1, λ e. back e)
+offence_as : (v : Result ⊤ Offence) (r : Refusal)
+    → ((v ≡ Err (offending r.number r.column)) × (r.card ≡ card_of r.column)) ↔ (in_verdict v ≡ Some r)
+offence_as (Ok _) r = (λ e. absurd (zero_one cc), λ e. absurd (zero_one cc))
+offence_as (Err o) r = (λ e. there o.number o.column e.0 e.1, λ e. back o.number o.column e)
   where
-    there : (n c : ℕ) → Offence n c ≡ Offence r.number r.column → r.card ≡ card_of r.column
-        → in_verdict (Offence n c) ≡ some r
-    there n c e k = ap in_verdict e ∙ ap (λ x. some (refusal r.number x r.column)) (sym k)
+    there : (n c : ℕ) → ◌≡◌ {A = Result ⊤ Offence} (Err (offending n c)) (Err (offending r.number r.column)) → r.card ≡ card_of r.column
+        → in_verdict (Err (offending n c)) ≡ Some r
+    there n c e k = ap in_verdict e ∙ ap (λ x. Some (refusal r.number x r.column)) (sym k)
 
-    back : in_verdict (Offence n c) ≡ some r → (Offence n c ≡ Offence r.number r.column) × (r.card ≡ card_of r.column)
-    back e =
+    back : (n c : ℕ) → in_verdict (Err (offending n c)) ≡ Some r → (◌≡◌ {A = Result ⊤ Offence} (Err (offending n c)) (Err (offending r.number r.column))) × (r.card ≡ card_of r.column)
+    back n c e =
         let q : refusal n (card_of c) c ≡ r = cc in
         let x : n ≡ r.number = ap (λ (x : Refusal). x.number) q in
         let y : c ≡ r.column = ap (λ (x : Refusal). x.column) q in
-        (ap₂ Offence x y, sym (ap (λ (x : Refusal). x.card) q) ∙ ap card_of y)
+        (ap₂ (λ m d. Err (offending m d)) x y, sym (ap (λ (x : Refusal). x.card) q) ∙ ap card_of y)
 
-fine_as : (v : Verdict) → (v ≡ Fine) ↔ (in_verdict v ≡ none)
-fine_as Fine = (λ e. refl, λ e. refl)
-fine_as (Offence n c) = (λ e. absurd (zero_one cc), λ e. absurd (zero_one cc))
+fine_as : (v : Result ⊤ Offence) → (v ≡ no_refusal) ↔ (in_verdict v ≡ None)
+fine_as (Ok _) = (λ e. refl, λ e. refl)
+fine_as (Err o) = (λ e. absurd (zero_one cc), λ e. absurd (zero_one cc))
 
 -- judging a card by itself
 pub verdict_exactly : (s : List ℕ) (form : Form)
     → Exactly (judge_rows s form)
-    (λ r. (verdict_of s form ≡ Offence r.number r.column) × (r.card ≡ card_of r.column))
-    (verdict_of s form ≡ Fine)
+    (λ r. (verdict_of s form ≡ Err (offending r.number r.column)) × (r.card ≡ card_of r.column))
+    (verdict_of s form ≡ no_refusal)
 verdict_exactly s form =
     let v = verdict_of s form in
     exactly (judge_rows s form) (in_verdict v) (verdict_given s form) (offence_as v) (fine_as v)

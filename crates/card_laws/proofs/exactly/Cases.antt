@@ -3,7 +3,6 @@ use Prim.Native.Nat.{ℕ}
 use Prim.Native.String.{String}
 use mathlib.Core.Path.{◌≡◌, refl}
 use mathlib.Core.List.{List, [], ◌∷◌, ◌++◌}
-use mathlib.Core.Option.{none, some}
 use lib.IntN.{pos, negsuc}
 use lib.ListN.{take, replicate}
 use Rattle.base_lists.specs.Count.{first, first_from}
@@ -27,6 +26,7 @@ use Rattle.card_put.specs.Putting.{placed_in}
 use Rattle.card_laws.specs.exactly.Rows.{given}
 use Rattle.card_laws.specs.exactly.Words.{fields_on, field_at, is_needed, reading_in, blanked_in}
 use Rattle.card_laws.specs.exactly.Tables.{way_rows, field_rows, value_rows, text_rows, read_rows, put_rows, put_text_rows, open_rows}
+use Rattle.std.specs.Prelude.{None, Some}
 
 -- a text with blanks behind it up to column 80
 abbrev card : String → List ℕ
@@ -44,16 +44,16 @@ pub reading_cases : given (read_rows [] 1 0)
     ∷ given (read_rows (card "H2110  -1") 1 0)
     ∷ given (read_rows (card "H2110   1") 1 0)
     ∷ []
-    ≡ some (refusal 1 0 0)
-    ∷ some (refusal 2 0 0)
-    ∷ some (refusal 4 1 6)
-    ∷ some (refusal 5 1 1)
-    ∷ some (refusal 13 0 0)
-    ∷ some (refusal 10 0 0)
-    ∷ some (refusal 11 1 7)
-    ∷ some (refusal 9 1 7)
-    ∷ some (refusal 10 1 7)
-    ∷ none
+    ≡ Some (refusal 1 0 0)
+    ∷ Some (refusal 2 0 0)
+    ∷ Some (refusal 4 1 6)
+    ∷ Some (refusal 5 1 1)
+    ∷ Some (refusal 13 0 0)
+    ∷ Some (refusal 10 0 0)
+    ∷ Some (refusal 11 1 7)
+    ∷ Some (refusal 9 1 7)
+    ∷ Some (refusal 10 1 7)
+    ∷ None
     ∷ []
 unfolding first first_from blanks unpadded leading behind value_from point_of figures_of signed_of number_held sign_of number_of text_end printable leading_blank text_reading number_in text_of whole_reading reading_of layouts passed_codes byte_fits fits_at fits codes place_in code_at code_of layout_at fields_of in_range first_bad columns_of is_blank spelling_of any_second given fields_on field_at is_needed reading_in way_rows field_rows read_rows
 reading_cases = refl
@@ -68,14 +68,14 @@ pub putting_cases : given (put_rows (card "H2210") 2 0 (Decimal (record { units 
     ∷ given (put_rows (card "H2210") 8 0 (Decimal (record { units = negsuc 1234566; places = 7 })))
     ∷ given (put_rows (card "H2210") 8 0 (Decimal (record { units = pos 1234567; places = 7 })))
     ∷ []
-    ≡ some (refusal 12 1 0)
-    ∷ some (refusal 11 1 11)
-    ∷ none
-    ∷ some (refusal 11 1 36)
-    ∷ some (refusal 10 1 0)
-    ∷ some (refusal 14 1 0)
-    ∷ some (refusal 14 1 0)
-    ∷ none
+    ≡ Some (refusal 12 1 0)
+    ∷ Some (refusal 11 1 11)
+    ∷ None
+    ∷ Some (refusal 11 1 36)
+    ∷ Some (refusal 10 1 0)
+    ∷ Some (refusal 14 1 0)
+    ∷ Some (refusal 14 1 0)
+    ∷ None
     ∷ []
 unfolding first first_from blanks unpadded leading behind value_from size_up_to text_end printable layouts passed_codes byte_fits fits_at fits codes place_in code_at code_of layout_at fields_of in_range first_bad columns_of is_blank spelling_of any_second placed_in given fields_on field_at is_needed blanked_in way_rows value_rows put_rows
 putting_cases = refl
@@ -88,12 +88,12 @@ pub text_cases : given (put_text_rows (card "H2210") 2 0 (bytes "A17"))
     ∷ given (put_text_rows (card "H2210") 3 0 (bytes "A17"))
     ∷ given (put_text_rows (card "C0001") 1 0 (bytes " A17"))
     ∷ []
-    ≡ some (refusal 12 1 0)
-    ∷ some (refusal 4 1 0)
-    ∷ some (refusal 9 1 0)
-    ∷ some (refusal 14 1 0)
-    ∷ none
-    ∷ none
+    ≡ Some (refusal 12 1 0)
+    ∷ Some (refusal 4 1 0)
+    ∷ Some (refusal 9 1 0)
+    ∷ Some (refusal 14 1 0)
+    ∷ None
+    ∷ None
     ∷ []
 unfolding first first_from text_end printable leading_blank well_formed layouts passed_codes byte_fits fits_at fits codes place_in code_at code_of layout_at fields_of first_bad given fields_on field_at way_rows text_rows put_text_rows
 text_cases = refl
@@ -104,6 +104,6 @@ pub opening_cases : given (open_rows (bytes "H2110") 0)
     ∷ given (open_rows (bytes "H211") 80)
     ∷ given (open_rows (bytes "H1410") 80)
     ∷ []
-    ≡ some (refusal 1 0 0) ∷ some (refusal 2 0 0) ∷ some (refusal 5 1 1) ∷ none ∷ []
+    ≡ Some (refusal 1 0 0) ∷ Some (refusal 2 0 0) ∷ Some (refusal 5 1 1) ∷ None ∷ []
 unfolding layouts passed_codes byte_fits fits_at fits codes place_in code_at code_of given open_rows
 opening_cases = refl

@@ -4,15 +4,13 @@ use native.Mathlib.Omega.{arith}
 use native.Mathlib.Decide.{ℕ_discrete, dec_lt, dec_le}
 use mathlib.Core.Path.{◌≡◌, refl, sym, ap, ◌∙◌}
 use mathlib.Core.List.{List, [], ◌∷◌}
-use mathlib.Core.Option.{Option, none, some}
 use mathlib.Core.Bool.{Bool, true, false, cond, ◌&&◌, not, true≢false}
 use lib.ListN.{length, take, drop}
 use lib.Dec.{T, eqb}
 use borrow.Author.Tests.{eq-eqb, ne_eqb, le-leb, lt-leb, lt-ltb, le-ltb, eqb-true}
 use Rattle.base_lists.specs.Parts.{alike}
 use Rattle.base_value.specs.declared.Value.TheVariants as value
-use Rattle.base_value.specs.declared.Reading.{Reading}
-use Rattle.base_value.specs.declared.Reading.TheVariants as reading
+use Rattle.base_value.specs.declared.Unread.TheVariants as unread
 use Rattle.value_field.specs.spelling.Reading.{reading_of}
 use Rattle.format_code.specs.declared.Code.{Code}
 use Rattle.format_code.specs.declared.Code.TheVariants as code
@@ -24,7 +22,6 @@ use Rattle.format_layout.specs.Layouts.{fields_of, label_of}
 use Rattle.format_layout.specs.ranges.Ranges.{in_range}
 use Rattle.format_layout.proofs.Columns.{is_in_order, front, rest}
 use Rattle.base_refusal.specs.declared.Refusal.{Refusal}
-use Rattle.card_field.specs.declared.judging.Judged.TheVariants as judged
 use Rattle.base_refusal.specs.Refusals.{refusal}
 use Rattle.card_field.specs.judging.Fields.{spelling_of, value_of, held_of, judged_of, number_of}
 use Rattle.card_field.specs.needing.Needs.{columns_of, needed_on}
@@ -36,37 +33,40 @@ use Rattle.card_laws.specs.exactly.Words.{fields_under, fields_on, label_on, lab
 use Rattle.card_laws.specs.exactly.Tables.{field_rows, form_rows, begin_rows, column_rows, in_reading}
 use Rattle.card_laws.proofs.exactly.Given.{or_else, given-append}
 use Rattle.card_laws.proofs.exactly.Fields.{field_rows_lem}
+use Rattle.std.specs.Prelude.{Result, Ok, Err, Option, None, Some}
+use Rattle.base_value.specs.declared.Unread.{Unread}
+use Rattle.base_value.specs.declared.Value.{Value}
 
 -- an offence at a column, none for 0
 abbrev pub marked : ℕ → ℕ → Option Refusal
-marked n c = cond (eqb n 0) none (some (refusal n 1 c))
+marked n c = cond (eqb n 0) None (Some (refusal n 1 c))
 
-or-none : (o : Option Refusal) → or_else o none ≡ o
-or-none none = refl
-or-none (some r) = refl
+or-none : (o : Option Refusal) → or_else o None ≡ o
+or-none None = refl
+or-none (Some r) = refl
 
 -- a field's judgement as an offence at its first column
-judged_mark : (needed : Bool) (f : Field) (r : Reading)
+judged_mark : (needed : Bool) (f : Field) (r : Result Value Unread)
     → in_reading (answered_of f false (held_of needed f r)) ≡ marked (number_of (held_of needed f r)) f.first
 unfolding answered_of held_of value_of
-judged_mark needed f reading.Malformed = refl
-judged_mark needed f reading.OutOfRange = refl
-judged_mark needed f (reading.Held value.Absent) = go needed
+judged_mark needed f (Err unread.Malformed) = refl
+judged_mark needed f (Err unread.OutOfRange) = refl
+judged_mark needed f (Ok value.Absent) = go needed
   where
-    go : (b : Bool) → in_reading (answered_of f false (cond b (judged.Not 11) (judged.Is value.Absent)))
-        ≡ marked (number_of (cond b (judged.Not 11) (judged.Is value.Absent))) f.first
+    go : (b : Bool) → in_reading (answered_of f false (cond b (Err 11) (Ok value.Absent)))
+        ≡ marked (number_of (cond b (Err 11) (Ok value.Absent))) f.first
     go true = refl
     go false = refl
-judged_mark needed f (reading.Held (value.Whole z)) = go (in_range f.range z)
+judged_mark needed f (Ok (value.Whole z)) = go (in_range f.range z)
   where
-    go : (b : Bool) → in_reading (answered_of f false (cond b (judged.Is (value.Whole z)) (judged.Not 10)))
-        ≡ marked (number_of (cond b (judged.Is (value.Whole z)) (judged.Not 10))) f.first
+    go : (b : Bool) → in_reading (answered_of f false (cond b (Ok (value.Whole z)) (Err 10)))
+        ≡ marked (number_of (cond b (Ok (value.Whole z)) (Err 10))) f.first
     go true = refl
     go false = refl
-judged_mark needed f (reading.Held (value.Decimal d)) = refl
-judged_mark needed f (reading.Held (value.Angle z)) = refl
-judged_mark needed f (reading.Held (value.Date d)) = refl
-judged_mark needed f (reading.Held (value.Text c)) = refl
+judged_mark needed f (Ok (value.Decimal d)) = refl
+judged_mark needed f (Ok (value.Angle z)) = refl
+judged_mark needed f (Ok (value.Date d)) = refl
+judged_mark needed f (Ok (value.Text c)) = refl
 
 module _ (s : List ℕ) (k : ℕ) (fields : fields_on s ≡ fields_of k) where
   field-mark : (form : Form) (f : Field) → given (field_rows s form f) ≡ marked (number_of (judged_of k s f form)) f.first
@@ -84,7 +84,7 @@ module _ (s : List ℕ) (k : ℕ) (fields : fields_on s ≡ fields_of k) where
 
   module _ (form : Form) (c : ℕ) where
     -- fields behind a column do not begin there
-    later_none : (b : ℕ) (fs : List Field) → T (is_in_order b fs) → c < b → given (begin_rows form s fs c) ≡ none
+    later_none : (b : ℕ) (fs : List Field) → T (is_in_order b fs) → c < b → given (begin_rows form s fs c) ≡ None
     unfolding begin_rows given
     later_none b [] t h = refl
     later_none b (f ∷ fs) t h =
@@ -98,7 +98,7 @@ module _ (s : List ℕ) (k : ℕ) (fields : fields_on s ≡ fields_of k) where
     unfolding given begin_rows covered column_offence gap_offence
     behind-mark b [] t = go (filled_at s c)
       where
-        go : (x : Bool) → cond x (some (refusal 7 1 c)) none ≡ marked (cond x 7 0) c
+        go : (x : Bool) → cond x (Some (refusal 7 1 c)) None ≡ marked (cond x 7 0) c
         go true = refl
         go false = refl
     behind-mark b (f ∷ fs) t =
@@ -142,9 +142,9 @@ module _ (s : List ℕ) (form : Form) (k : ℕ) (q : code_of (take 5 s) ≡ code
   label_past (x ∷ l) u h = rw (ne_eqb c 6 (λ e. absurd (omega arith)))
 
   label-mark : (x : Bool) → eqb c 6 ≡ x → (y : Bool)
-      → cond (x && not y) (some (refusal 8 1 6)) none ≡ marked (cond (x && not y) 8 0) c
+      → cond (x && not y) (Some (refusal 8 1 6)) None ≡ marked (cond (x && not y) 8 0) c
   label-mark true e true = refl
-  label-mark true e false = ap (λ j. some (refusal 8 1 j)) (sym (eqb-true c 6 e))
+  label-mark true e false = ap (λ j. Some (refusal 8 1 j)) (sym (eqb-true c 6 e))
   label-mark false e y = refl
 
   pub column_rows_lem : given (column_rows form s c) ≡ marked (offence_at k form s c) c
@@ -169,11 +169,11 @@ module _ (s : List ℕ) (form : Form) (k : ℕ) (q : code_of (take 5 s) ≡ code
   ])
 
 -- a column of any other card has no row that holds
-pub not-read : (s : List ℕ) (form : Form) (c : ℕ) → is_read (code_of (take 5 s)) ≡ false → given (column_rows form s c) ≡ none
+pub not-read : (s : List ℕ) (form : Form) (c : ℕ) → is_read (code_of (take 5 s)) ≡ false → given (column_rows form s c) ≡ None
 unfolding given column_rows label_differs label_on is_gap fields_on begin_rows alike
 not-read s form c h = go (code_of (take 5 s)) refl h
   where
-    go : (x : Code) → code_of (take 5 s) ≡ x → is_read x ≡ false → given (column_rows form s c) ≡ none
+    go : (x : Code) → code_of (take 5 s) ≡ x → is_read x ≡ false → given (column_rows form s c) ≡ None
     go (code.Read k) q e = absurd (true≢false e)
     go code.Passed q e = rw (q, never (eqb c 6))
     go code.Unknown q e = rw (q, never (eqb c 6))

@@ -5,14 +5,13 @@ use native.Mathlib.Nat.{add-zero}
 use native.Mathlib.Decide.{dec_le}
 use mathlib.Core.Path.{◌≡◌, refl, sym, ap, ◌∙◌}
 use mathlib.Core.List.{List, [], ◌∷◌, ◌++◌}
-use mathlib.Core.Option.{Option, none, some}
 use mathlib.Core.Logic.{◌↔◌}
 use mathlib.Core.Bool.{Bool, true, false, cond, ◌&&◌, not}
 use lib.ListN.{length, replicate}
 use lib.Dec.{T, leb, ltb, leb→le, eqb→eq}
 use lib.IntN.{ℤ, nat_abs}
 use borrow.Author.Tests.{le-ltb, lt-ltb, le-leb, lt-leb}
-use Rattle.base_refusal.specs.declared.Written.TheVariants as written
+use Rattle.base_refusal.specs.declared.Unwritten.TheVariants as unwritten
 use Rattle.base_digits.specs.digits.Columns.{Entry, agreed, refused, fits, room_of}
 use Rattle.base_value.specs.declared.Decimal.{Decimal as Units}
 use Rattle.base_digits.specs.digits.Digits.{digits}
@@ -38,20 +37,15 @@ use Rattle.format_layout.specs.declared.Form.{Form}
 use Rattle.format_layout.specs.declared.Form.TheVariants.{Angles, Grid, Unknown}
 use Rattle.format_layout.specs.Forms.{is_grid, form_numbered}
 use Rattle.format_layout.specs.ranges.Ranges.{in_range}
-use Rattle.format_layout.specs.Columns.{wide_as}
+use Rattle.format_layout.specs.Columns.{wide_as, width}
 use Rattle.format_layout.proofs.Numbers.{found_wide}
 use Rattle.base_refusal.specs.declared.Refusal.{Refusal}
-use Rattle.card_field.specs.declared.seeking.Sought.{Sought}
-use Rattle.card_field.specs.declared.seeking.Sought.TheVariants as sought
-use Rattle.base_refusal.specs.Refusals.{refusal}
+use Rattle.base_refusal.specs.Refusals.{refusal, no_refusal}
 use Rattle.card_field.specs.seeking.Card.{sought_of}
 use Rattle.card_field.specs.judging.Fields.{spelling_of}
 use Rattle.card_field.proofs.seeking.Steps.{found-there}
-use Rattle.card_put.specs.declared.Entered.{Entered}
-use Rattle.card_put.specs.declared.Entered.TheVariants.{Done, Refused}
 use Rattle.card_put.specs.Putting.{stays, answer_of, is_absent, within, is_other, came_of, by_entry, value_put, value_at, text_at, putting_of, putting_text_of}
 use Rattle.card_field.specs.needing.Needs.{needed_after}
-use Rattle.format_layout.specs.Columns.{width}
 use Rattle.card_laws.specs.exactly.Rows.{given, Exactly}
 use Rattle.card_laws.specs.exactly.Words.{field_at, is_needed, is_outside, is_decimal, is_angle, takes, axis_of, number_columns, columns_for, blanked_in, takes_text, is_comment}
 use Rattle.card_laws.specs.exactly.Tables.{way_rows, value_rows, text_rows, put_rows, put_text_rows, in_entry}
@@ -59,6 +53,8 @@ use Rattle.card_laws.proofs.exactly.Given.{or_else, given-append, exactly}
 use Rattle.card_laws.proofs.exactly.Way.{in_seeking, way_rows_lem, found-field}
 use Rattle.card_laws.proofs.exactly.Blanked.{needed_blank}
 use Rattle.card_laws.proofs.exactly.Room.{number-room}
+use Rattle.std.specs.Prelude.{Result, Ok, Err, ⊤, Option, None, Some}
+use Rattle.card_field.specs.seeking.Found.{Sought}
 
 -- a test and its contrary
 not-leb : (a b : ℕ) → not (leb a b) ≡ ltb b a
@@ -71,8 +67,8 @@ module _ (s : List ℕ) (f : Field) where
   -- what the rows 12, 11, 10 and 14 give by their tests, and what putting answers
   abbrev rows : Bool → Bool → Bool → Bool → Option Refusal
   rows other missing outside wide =
-      cond other (some (refusal 12 1 0)) (cond missing (some (refusal 11 1 f.first))
-      (cond outside (some (refusal 10 1 0)) (cond wide (some (refusal 14 1 0)) none)))
+      cond other (Some (refusal 12 1 0)) (cond missing (Some (refusal 11 1 f.first))
+      (cond outside (Some (refusal 10 1 0)) (cond wide (Some (refusal 14 1 0)) None)))
 
   abbrev puts : Bool → Bool → Entry → Option Refusal
   puts missing inside e =
@@ -91,12 +87,12 @@ module _ (s : List ℕ) (f : Field) where
   room_puts : (inside room : Bool) (o : Option (List ℕ)) → fits o ≡ room
       → rows false false (not inside) (not room) ≡ puts false inside (room_of o)
   unfolding is_other by_entry came_of
-  room_puts inside room none q = rw (← q) (go inside)
+  room_puts inside room None q = rw (← q) (go inside)
     where
-      go : (b : Bool) → rows false false (not b) true ≡ puts false b (refused written.NoRoom)
+      go : (b : Bool) → rows false false (not b) true ≡ puts false b (refused unwritten.NoRoom)
       go true = refl
       go false = refl
-  room_puts inside room (some t) q = rw (← q) (go inside)
+  room_puts inside room (Some t) q = rw (← q) (go inside)
     where
       go : (b : Bool) → rows false false (not b) false ≡ puts false b (agreed t)
       go true = refl
@@ -120,11 +116,11 @@ module _ (s : List ℕ) (f : Field) where
 
       go : (o : Option (List ℕ)) → decimal_in 11 d ≡ o
           → rows false false false (ltb 12 (number_columns d + 1)) ≡ puts false true (lettered (letter_of a false) o)
-      go none e = rw (fit, ← number-room 11 d (omega arith), e)
-      go (some t) e = rw (fit, ← number-room 11 d (omega arith), e)
+      go None e = rw (fit, ← number-room 11 d (omega arith), e)
+      go (Some t) e = rw (fit, ← number-room 11 d (omega arith), e)
 
   outside_puts : (inside : Bool) (t : List ℕ)
-      → rows false false (not inside) false ≡ puts false true (cond inside (agreed t) (refused written.OutOfRange))
+      → rows false false (not inside) false ≡ puts false true (cond inside (agreed t) (refused unwritten.OutOfRange))
   unfolding is_other by_entry came_of
   outside_puts true t = refl
   outside_puts false t = refl
@@ -256,23 +252,23 @@ value_rows_lem k s n form v f q t =
 module _ (s : List ℕ) (f : Field) (t : List ℕ) where
   abbrev asks_text : Kind → Form → Type 0
   asks_text x form =
-      cond (not (takes_text x)) (some (refusal 12 1 0))
-      (cond (not (printable t)) (some (refusal 4 1 0))
-      (cond (not (well_formed (is_comment x) t)) (some (refusal 9 1 0))
-      (cond (ltb (width f) (length t)) (some (refusal 14 1 0)) none)))
+      cond (not (takes_text x)) (Some (refusal 12 1 0))
+      (cond (not (printable t)) (Some (refusal 4 1 0))
+      (cond (not (well_formed (is_comment x) t)) (Some (refusal 9 1 0))
+      (cond (ltb (width f) (length t)) (Some (refusal 14 1 0)) None)))
       ≡ in_entry (answer_of (by_entry f s (text_entry_of (spelling_of x form) (width f) t)))
 
   text_puts : (lead : Bool)
-      → cond (not (printable t)) (some (refusal 4 1 0))
-      (cond (not (well_formed lead t)) (some (refusal 9 1 0)) (cond (ltb (width f) (length t)) (some (refusal 14 1 0)) none))
+      → cond (not (printable t)) (Some (refusal 4 1 0))
+      (cond (not (well_formed lead t)) (Some (refusal 9 1 0)) (cond (ltb (width f) (length t)) (Some (refusal 14 1 0)) None))
       ≡ in_entry (answer_of (by_entry f s (text_in lead (width f) t)))
   unfolding text_in by_entry came_of
   text_puts lead = rw (← not-leb (length t) (width f)) (go (printable t) (well_formed lead t) (leb (length t) (width f)))
     where
       go : (a b c : Bool)
-          → cond (not a) (some (refusal 4 1 0)) (cond (not b) (some (refusal 9 1 0)) (cond (not c) (some (refusal 14 1 0)) none))
-          ≡ in_entry (answer_of (by_entry f s (cond (not a) (refused written.Unprintable) (cond (not b) (refused written.Malformed)
-          (cond c (agreed (t ++ replicate (width f - length t) 32)) (refused written.NoRoom))))))
+          → cond (not a) (Some (refusal 4 1 0)) (cond (not b) (Some (refusal 9 1 0)) (cond (not c) (Some (refusal 14 1 0)) None))
+          ≡ in_entry (answer_of (by_entry f s (cond (not a) (refused unwritten.Unprintable) (cond (not b) (refused unwritten.Malformed)
+          (cond c (agreed (t ++ replicate (width f - length t) 32)) (refused unwritten.NoRoom))))))
       go false b c = refl
       go true false c = refl
       go true true false = refl
@@ -298,19 +294,19 @@ text_rows_lem : (s : List ℕ) (form : Form) (t : List ℕ) (f : Field)
 unfolding given text_rows
 text_rows_lem s form t f = all_ask_text s f t f.kind form
 
-value_is : (s : List ℕ) (n form : ℕ) (v : Value) (o : Sought) → sought_of s n form ≡ o
+value_is : (s : List ℕ) (n form : ℕ) (v : Value) (o : Result Sought Refusal) → sought_of s n form ≡ o
     → in_entry (answer_of (value_at s n (form_numbered form) v o)) ≡ or_else (in_seeking o) (given (value_rows s (form_numbered form) v (field_at s n)))
 unfolding value_at
-value_is s n form v (sought.Refused r) q = refl
-value_is s n form v (sought.Is k f) q =
-    rw (found-field s n form k f q)
-    (sym (value_rows_lem k s n (form_numbered form) v f (needed_blank s n form k f q) (found_wide k n f (found-there s n form k f q).field)))
+value_is s n form v (Err r) q = refl
+value_is s n form v (Ok o) q =
+    rw (found-field s n form o.layout o.field q)
+    (sym (value_rows_lem o.layout s n (form_numbered form) v o.field (needed_blank s n form o.layout o.field q) (found_wide o.layout n o.field (found-there s n form o.layout o.field q).field)))
 
-text-is : (s : List ℕ) (n form : ℕ) (t : List ℕ) (o : Sought) → sought_of s n form ≡ o
+text-is : (s : List ℕ) (n form : ℕ) (t : List ℕ) (o : Result Sought Refusal) → sought_of s n form ≡ o
     → in_entry (answer_of (text_at s (form_numbered form) t o)) ≡ or_else (in_seeking o) (given (text_rows t (field_at s n)))
 unfolding text_at
-text-is s n form t (sought.Refused r) q = refl
-text-is s n form t (sought.Is k f) q = rw (found-field s n form k f q) (sym (text_rows_lem s (form_numbered form) t f))
+text-is s n form t (Err r) q = refl
+text-is s n form t (Ok o) q = rw (found-field s n form o.layout o.field q) (sym (text_rows_lem s (form_numbered form) t o.field))
 
 -- the refusal in the answer to a put is the first that its table gives
 pub put_given : (s : List ℕ) (n form : ℕ) (v : Value) → in_entry (answer_of (putting_of s n form v)) ≡ given (put_rows s n form v)
@@ -328,26 +324,26 @@ put_text-given s n form t =
     ∙ ap (λ o. or_else o (given (text_rows t (field_at s n)))) (sym (way_rows_lem s n form))
     ∙ sym (given-append (way_rows s n form) (text_rows t (field_at s n)))
 
-refused_as : (a : Entered) (r : Refusal) → (a ≡ Refused r) ↔ (in_entry a ≡ some r)
-refused_as Done r = (λ e. absurd (zero_one cc), λ e. absurd (zero_one cc))
-refused_as (Refused q) r = (λ e. ap in_entry e, λ e. let x : q ≡ r = cc in ap Refused x)
+refused_as : (a : Result ⊤ Refusal) (r : Refusal) → (a ≡ Err r) ↔ (in_entry a ≡ Some r)
+refused_as (Ok _) r = (λ e. absurd (zero_one cc), λ e. absurd (zero_one cc))
+refused_as (Err q) r = (λ e. ap in_entry e, λ e. let x : q ≡ r = cc in ap Err x)
 
-done_as : (a : Entered) → (a ≡ Done) ↔ (in_entry a ≡ none)
-done_as Done = (λ e. refl, λ e. refl)
-done_as (Refused q) = (λ e. absurd (zero_one cc), λ e. absurd (zero_one cc))
+done_as : (a : Result ⊤ Refusal) → (a ≡ no_refusal) ↔ (in_entry a ≡ None)
+done_as (Ok _) = (λ e. refl, λ e. refl)
+done_as (Err q) = (λ e. absurd (zero_one cc), λ e. absurd (zero_one cc))
 
 module _ (s : List ℕ) (n form : ℕ) where
   -- putting a value into a field of a card
   pub put_exactly : (v : Value)
-      → Exactly (put_rows s n form v) (λ r. answer_of (putting_of s n form v) ≡ Refused r) (answer_of (putting_of s n form v) ≡ Done)
+      → Exactly (put_rows s n form v) (λ r. answer_of (putting_of s n form v) ≡ Err r) (answer_of (putting_of s n form v) ≡ no_refusal)
   put_exactly v =
       let a = answer_of (putting_of s n form v) in
       exactly (put_rows s n form v) (in_entry a) (put_given s n form v) (refused_as a) (done_as a)
 
   -- putting a text into it
   pub put_text_exactly : (t : List ℕ)
-      → Exactly (put_text_rows s n form t) (λ r. answer_of (putting_text_of s n form t) ≡ Refused r)
-      (answer_of (putting_text_of s n form t) ≡ Done)
+      → Exactly (put_text_rows s n form t) (λ r. answer_of (putting_text_of s n form t) ≡ Err r)
+      (answer_of (putting_text_of s n form t) ≡ no_refusal)
   put_text_exactly t =
       let a = answer_of (putting_text_of s n form t) in
       exactly (put_text_rows s n form t) (in_entry a) (put_text-given s n form t) (refused_as a) (done_as a)

@@ -3,7 +3,6 @@ use Prim.Native.Nat.{ℕ}
 use native.Mathlib.Nat.{sub-zero}
 use mathlib.Core.Path.{◌≡◌, refl, sym, ap, ◌∙◌}
 use mathlib.Core.List.{List, []}
-use mathlib.Core.Option.{Option, none, some}
 use mathlib.Core.Logic.{◌↔◌}
 use mathlib.Core.Bool.{Bool, true, false, cond, ◌&&◌, ◌||◌, not, false≢true}
 use lib.ListN.{length}
@@ -13,8 +12,7 @@ use Rattle.value_text.proofs.text.Back.{end_blanks}
 use Rattle.value_text.proofs.text.Agreed.{blank_behind}
 use Rattle.base_value.specs.declared.Value.{Value}
 use Rattle.base_value.specs.declared.Value.TheVariants.{Absent, Whole, Decimal, Angle, Date, Text}
-use Rattle.base_value.specs.declared.Reading.{Reading}
-use Rattle.base_value.specs.declared.Reading.TheVariants as reading
+use Rattle.base_value.specs.declared.Unread.TheVariants as unread
 use Rattle.value_field.specs.declared.spelling.Spelling.{Spelling}
 use Rattle.value_field.specs.spelling.Reading.{reading_of}
 use Rattle.value_field.proofs.spelling.Absence.{zero_one, blank_in, blank_read, absent_only}
@@ -24,11 +22,6 @@ use Rattle.format_layout.specs.Forms.{form_numbered}
 use Rattle.format_layout.specs.Layouts.{fields_of}
 use Rattle.format_layout.specs.ranges.Ranges.{in_range}
 use Rattle.base_refusal.specs.declared.Refusal.{Refusal}
-use Rattle.card_field.specs.declared.judging.Judged.TheVariants as judged
-use Rattle.card_field.specs.declared.seeking.Sought.{Sought}
-use Rattle.card_field.specs.declared.seeking.Sought.TheVariants as sought
-use Rattle.card_field.specs.declared.FieldRead.{FieldRead}
-use Rattle.card_field.specs.declared.FieldRead.TheVariants as read
 use Rattle.base_refusal.specs.Refusals.{refusal}
 use Rattle.card_field.specs.seeking.Card.{sought_of}
 use Rattle.card_field.specs.judging.Fields.{spelling_of, value_of, held_of, judged_of}
@@ -39,34 +32,39 @@ use Rattle.card_laws.specs.exactly.Words.{fields_on, field_at, is_needed, readin
 use Rattle.card_laws.specs.exactly.Tables.{way_rows, field_rows, read_rows, in_reading}
 use Rattle.card_laws.proofs.exactly.Given.{or_else, given-append, exactly}
 use Rattle.card_laws.proofs.exactly.Way.{in_seeking, way_rows_lem, found-fields, found-field}
+use Rattle.std.specs.Prelude.{Result, Ok, Err, Option, None, Some}
+use Rattle.card_field.specs.declared.FieldRead.{FieldRead}
+use Rattle.base_value.specs.declared.Unread.{Unread}
+use Rattle.card_field.specs.Fields.{field_read}
+use Rattle.card_field.specs.seeking.Found.{Sought}
 
 -- blank columns are those that read as absent, whatever the spelling
-pub blank_absent : (k : Spelling) (s : List ℕ) → is_blank s ≡ true → reading_of k s ≡ reading.Held Absent
+pub blank_absent : (k : Spelling) (s : List ℕ) → is_blank s ≡ true → reading_of k s ≡ Ok Absent
 unfolding is_blank
 blank_absent k s h =
     let z : text_end s ≡ 0 = eqb-true (text_end s) 0 h in
     let e : s ≡ blank_in (length s) = rw (z, sub-zero (length s)) at (blank_behind s) in
     ap (reading_of k) e ∙ blank_read (length s) k
 
-pub absent_blank : (k : Spelling) (s : List ℕ) → reading_of k s ≡ reading.Held Absent → is_blank s ≡ true
+pub absent_blank : (k : Spelling) (s : List ℕ) → reading_of k s ≡ Ok Absent → is_blank s ≡ true
 unfolding is_blank text_end
 absent_blank k s h = eq-eqb (text_end s) 0 (ap text_end (absent_only s k h) ∙ end_blanks [] (length s))
 
 -- a field held against its need and range; whether its number is misplaced plays no part
 module _ (needed left : Bool) (f : Field) where
-  own : Bool → Reading → Option Refusal
+  own : Bool → Result Value Unread → Option Refusal
   own blank r =
-      cond (needed && blank) (some (refusal 11 1 f.first))
-      (cond (is_malformed r) (some (refusal 9 1 f.first))
-      (cond (reads_outside f r) (some (refusal 10 1 f.first)) none))
+      cond (needed && blank) (Some (refusal 11 1 f.first))
+      (cond (is_malformed r) (Some (refusal 9 1 f.first))
+      (cond (reads_outside f r) (Some (refusal 10 1 f.first)) None))
 
-  held_rows : (blank : Bool) (r : Reading) → (blank ≡ true → r ≡ reading.Held Absent) → (r ≡ reading.Held Absent → blank ≡ true)
+  held_rows : (blank : Bool) (r : Result Value Unread) → (blank ≡ true → r ≡ Ok Absent) → (r ≡ Ok Absent → blank ≡ true)
       → own blank r ≡ in_reading (answered_of f left (held_of needed f r))
   unfolding own answered_of held_of value_of
   held_rows true r a b = rw (a refl) (go needed)
     where
-      go : (x : Bool) → cond (x && true) (some (refusal 11 1 f.first)) none
-          ≡ in_reading (answered_of f left (cond x (judged.Not 11) (judged.Is Absent)))
+      go : (x : Bool) → cond (x && true) (Some (refusal 11 1 f.first)) None
+          ≡ in_reading (answered_of f left (cond x (Err 11) (Ok Absent)))
       go true = refl
       go false = refl
   held_rows false r a b = rw (never needed) (go r b)
@@ -76,21 +74,21 @@ module _ (needed left : Bool) (f : Field) where
       never false = refl
 
       ranged : (x : Bool) (z : Value)
-          → cond (not x) (some (refusal 10 1 f.first)) none ≡ in_reading (answered_of f left (cond x (judged.Is z) (judged.Not 10)))
+          → cond (not x) (Some (refusal 10 1 f.first)) None ≡ in_reading (answered_of f left (cond x (Ok z) (Err 10)))
       ranged true z = refl
       ranged false z = refl
 
-      go : (r : Reading) → (r ≡ reading.Held Absent → false ≡ true)
-          → cond (is_malformed r) (some (refusal 9 1 f.first)) (cond (reads_outside f r) (some (refusal 10 1 f.first)) none)
+      go : (r : Result Value Unread) → (r ≡ Ok Absent → false ≡ true)
+          → cond (is_malformed r) (Some (refusal 9 1 f.first)) (cond (reads_outside f r) (Some (refusal 10 1 f.first)) None)
           ≡ in_reading (answered_of f left (held_of needed f r))
-      go reading.Malformed b = refl
-      go reading.OutOfRange b = refl
-      go (reading.Held Absent) b = absurd (false≢true (b refl))
-      go (reading.Held (Whole z)) b = ranged (in_range f.range z) (Whole z)
-      go (reading.Held (Decimal d)) b = refl
-      go (reading.Held (Angle z)) b = refl
-      go (reading.Held (Date d)) b = refl
-      go (reading.Held (Text c)) b = refl
+      go (Err unread.Malformed) b = refl
+      go (Err unread.OutOfRange) b = refl
+      go (Ok Absent) b = absurd (false≢true (b refl))
+      go (Ok (Whole z)) b = ranged (in_range f.range z) (Whole z)
+      go (Ok (Decimal d)) b = refl
+      go (Ok (Angle z)) b = refl
+      go (Ok (Date d)) b = refl
+      go (Ok (Text c)) b = refl
 
 -- the rows of a field are its judgement
 pub field_rows_lem : (k : ℕ) (s : List ℕ) (form : Form) (f : Field) → fields_on s ≡ fields_of k
@@ -102,12 +100,12 @@ field_rows_lem k s form f q left =
     (reading_of (spelling_of f.kind form) (columns_of f s))
     (blank_absent (spelling_of f.kind form) (columns_of f s)) (absent_blank (spelling_of f.kind form) (columns_of f s)))
 
-reading_is : (s : List ℕ) (n form : ℕ) (o : Sought) → sought_of s n form ≡ o
+reading_is : (s : List ℕ) (n form : ℕ) (o : Result Sought Refusal) → sought_of s n form ≡ o
     → in_reading (field_on s (form_numbered form) o) ≡ or_else (in_seeking o) (given (field_rows s (form_numbered form) (field_at s n)))
 unfolding field_on
-reading_is s n form (sought.Refused r) q = refl
-reading_is s n form (sought.Is k f) q =
-    rw (found-field s n form k f q) (sym (field_rows_lem k s (form_numbered form) f (found-fields s n form k f q) _))
+reading_is s n form (Err r) q = refl
+reading_is s n form (Ok o) q =
+    rw (found-field s n form o.layout o.field q) (sym (field_rows_lem o.layout s (form_numbered form) o.field (found-fields s n form o.layout o.field q) _))
 
 -- the refusal in the reading of a field is the first that its table gives
 pub reading_given : (s : List ℕ) (n form : ℕ) → in_reading (field_reading s n form) ≡ given (read_rows s n form)
@@ -118,17 +116,17 @@ reading_given s n form =
     ∙ sym (given-append (way_rows s n form) (field_rows s (form_numbered form) (field_at s n)))
 
 module _ (s : List ℕ) (n form : ℕ) where
-  refused_as : (a : FieldRead) (r : Refusal) → (a ≡ read.Refused r) ↔ (in_reading a ≡ some r)
-  refused_as (read.Is v b) r = (λ e. absurd (zero_one cc), λ e. absurd (zero_one cc))
-  refused_as (read.Refused q) r = (λ e. ap in_reading e, λ e. let x : q ≡ r = cc in ap read.Refused x)
+  refused_as : (a : Result FieldRead Refusal) (r : Refusal) → (a ≡ Err r) ↔ (in_reading a ≡ Some r)
+  refused_as (Ok f) r = (λ e. absurd (zero_one cc), λ e. absurd (zero_one cc))
+  refused_as (Err q) r = (λ e. ap in_reading e, λ e. let x : q ≡ r = cc in ap Err x)
 
-  value_as : (a : FieldRead) → ((v : Value) × (b : Bool) × (a ≡ read.Is v b)) ↔ (in_reading a ≡ none)
-  value_as (read.Is v b) = (λ e. refl, λ e. (v, b, refl))
-  value_as (read.Refused q) = (λ e. absurd (zero_one cc), λ e. absurd (zero_one cc))
+  value_as : (a : Result FieldRead Refusal) → ((v : Value) × (b : Bool) × (a ≡ Ok (field_read v b))) ↔ (in_reading a ≡ None)
+  value_as (Ok f) = (λ e. refl, λ e. (f.value, f.misplaced, refl))
+  value_as (Err q) = (λ e. absurd (zero_one cc), λ e. absurd (zero_one cc))
 
   -- reading a field of a card
-  pub reading_exactly : Exactly (read_rows s n form) (λ r. field_reading s n form ≡ read.Refused r)
-      ((v : Value) × (b : Bool) × (field_reading s n form ≡ read.Is v b))
+  pub reading_exactly : Exactly (read_rows s n form) (λ r. field_reading s n form ≡ Err r)
+      ((v : Value) × (b : Bool) × (field_reading s n form ≡ Ok (field_read v b)))
   reading_exactly =
       exactly (read_rows s n form) (in_reading (field_reading s n form)) (reading_given s n form)
       (refused_as (field_reading s n form)) (value_as (field_reading s n form))

@@ -23,11 +23,8 @@ use Rattle.format_layout.specs.Layouts.{fields_of, label_of, layout_at}
 use Rattle.format_layout.proofs.Every.{every, and_left, and_right}
 use Rattle.format_layout.proofs.Places.{has_fields}
 use Rattle.format_layout.proofs.Columns.{is_in_order, front, rest, of_layout}
-use Rattle.card_field.specs.declared.judging.Judged.TheVariants as judged
 use Rattle.card_field.specs.judging.Fields.{spelling_of, value_of, held_of, judged_of, number_of}
 use Rattle.card_field.specs.needing.Needs.{columns_of, is_blank, any_second, needed_on}
-use Rattle.card_check.specs.declared.Verdict.{Verdict}
-use Rattle.card_check.specs.declared.Verdict.TheVariants.{Fine, Offence}
 use Rattle.card_put.specs.opening.Opening.{labelled, new_card, card_with, opened_card}
 use Rattle.card_check.specs.Judging.{is_coordinate, field_offence, filled_at, gap_offence, column_offence, label_offence, offence_at, verdict_from, verdict_at, code_verdict, verdict_of}
 use Rattle.card_put.proofs.opening.Laying.{card_coded, read_length, passed_length as passed-code-length}
@@ -40,6 +37,10 @@ use Rattle.card_laws.specs.exactly.Words.{is_unknown}
 use Rattle.card_laws.proofs.exactly.Fields.{blank_absent}
 use Rattle.card_laws.proofs.exactly.Known.{known_printable, label-printable, new_printable}
 use Rattle.card_laws.proofs.exactly.WholeCards.{sound_verdict, from_leftmost, to_leftmost, from-none}
+use Rattle.std.specs.Prelude.{Result, Ok, Err, ⊤}
+use Rattle.card_check.specs.declared.Offence.{Offence}
+use Rattle.base_refusal.specs.Refusals.{no_refusal}
+use Rattle.card_check.specs.Verdicts.{offending}
 
 -- a card opened with a passed code has 80 columns, that code and blanks, and is fine
 module _ (t s : List ℕ) (whole : length s ≡ 80) (is : code_of t ≡ code.Passed) where
@@ -57,7 +58,7 @@ module _ (t s : List ℕ) (whole : length s ≡ 80) (is : code_of t ≡ code.Pas
   unfolding labelled
   passed_blank = ap (drop 5) passed_card ∙ new_rest t [] (passed-code-length t is)
 
-  pub passed_fine : (form : Form) → verdict_of (opened_card t s) form ≡ Fine
+  pub passed_fine : (form : Form) → verdict_of (opened_card t s) form ≡ no_refusal
   unfolding code_verdict printable
   passed_fine form =
       sound_verdict (opened_card t s) form
@@ -187,7 +188,7 @@ module _ (t s : List ℕ) (whole : length s ≡ 80) (k : ℕ) (is : code_of t �
       )
       (go f.needed f.second)
     where
-      go : (a b : Bool) → number_of (cond (a && (not b || false)) (judged.Not 11) (judged.Is Absent)) ≡ cond (a && not b) 11 0
+      go : (a b : Bool) → number_of (cond (a && (not b || false)) (Err 11) (Ok Absent)) ≡ cond (a && not b) 11 0
       go true true = refl
       go true false = refl
       go false b = refl
@@ -267,48 +268,48 @@ module _ (t s : List ℕ) (whole : length s ≡ 80) (k : ℕ) (is : code_of t �
   opened_verdict form =
       sound_verdict card form sound (code.Read k) (opened_code t s whole k is) ∙ go (verdict_from (missing_at (fields_of k)) 6) refl
     where
-      go : (v : Verdict) → verdict_from (missing_at (fields_of k)) 6 ≡ v
+      go : (v : Result ⊤ Offence) → verdict_from (missing_at (fields_of k)) 6 ≡ v
           → verdict_from (offence_at k form card) 6 ≡ verdict_from (missing_at (fields_of k)) 6
-      go Fine q =
+      go (Ok _) q =
           from-none (offence_at k form card)
           (λ c a b. opened_offence form c b ∙ fine_everywhere (missing_at (fields_of k)) 6 (omega arith) q c a b) ∙ sym q
-      go (Offence n d) q =
-          let l = to_leftmost (missing_at (fields_of k)) n d q in
-          from_leftmost (offence_at k form card) n d
+      go (Err o) q =
+          let l = to_leftmost (missing_at (fields_of k)) o.number o.column q in
+          from_leftmost (offence_at k form card) o.number o.column
           (record {
             from = l.from;
             on_card = l.on_card;
-            number = opened_offence form d l.on_card ∙ l.number;
+            number = opened_offence form o.column l.on_card ∙ l.number;
             some = l.some;
             none_before = λ c a b. opened_offence form c (omega (arith, l.on_card)) ∙ l.none_before c a b;
           })
           ∙ sym q
 
   -- an offence of a new card is an 11, at a needed field of the first set
-  pub opened_eleven : (form : Form) (n d : ℕ) → verdict_of card form ≡ Offence n d → (n ≡ 11) × Missing (fields_of k) d
+  pub opened_eleven : (form : Form) (n d : ℕ) → verdict_of card form ≡ Err (offending n d) → (n ≡ 11) × Missing (fields_of k) d
   opened_eleven form n d e =
       let l = to_leftmost (missing_at (fields_of k)) n d (sym (opened_verdict form) ∙ e) in
       found n d (fields_of k) l.number l.some
 
   -- and where no such field is, the card is fine
-  pub opened_fine : (form : Form) → ((d : ℕ) → Missing (fields_of k) d → ⊥) → verdict_of card form ≡ Fine
+  pub opened_fine : (form : Form) → ((d : ℕ) → Missing (fields_of k) d → ⊥) → verdict_of card form ≡ no_refusal
   opened_fine form none = go (verdict_of card form) refl
     where
-      go : (v : Verdict) → verdict_of card form ≡ v → v ≡ Fine
-      go Fine q = refl
-      go (Offence n d) q = absurd (none d (opened_eleven form n d q).1)
+      go : (v : Result ⊤ Offence) → verdict_of card form ≡ v → v ≡ no_refusal
+      go (Ok _) q = refl
+      go (Err o) q = absurd (none o.column (opened_eleven form o.number o.column q).1)
 
 -- the verdicts on a new card of each read code, in the table's order
 pub opened_verdicts : map (λ (l : Layout). verdict_from (missing_at l.fields) 6) layouts
     ≡  -- H0000 to H0007, H00@8, H00@9
-    Fine ∷ Fine ∷ Fine ∷ Fine ∷ Fine ∷ Fine ∷ Fine ∷ Fine ∷ Offence 11 30 ∷ Offence 11 7 ∷
+    no_refusal ∷ no_refusal ∷ no_refusal ∷ no_refusal ∷ no_refusal ∷ no_refusal ∷ no_refusal ∷ no_refusal ∷ Err (offending 11 30) ∷ Err (offending 11 7) ∷
     -- C0001, C0002, H0100, H0101, H011#, H0120
-    Fine ∷ Fine ∷ Offence 11 21 ∷ Offence 11 7 ∷ Fine ∷ Offence 11 7 ∷
+    no_refusal ∷ no_refusal ∷ Err (offending 11 21) ∷ Err (offending 11 7) ∷ no_refusal ∷ Err (offending 11 7) ∷
     -- H17@0, H17@1, H21@0 to H21@3
-    Offence 11 7 ∷ Offence 11 7 ∷ Offence 11 7 ∷ Offence 11 7 ∷ Fine ∷ Fine ∷
+    Err (offending 11 7) ∷ Err (offending 11 7) ∷ Err (offending 11 7) ∷ Err (offending 11 7) ∷ no_refusal ∷ no_refusal ∷
     -- H22@0, H2300, H23@0, H2301
-    Offence 11 7 ∷ Fine ∷ Offence 11 7 ∷ Fine ∷
+    Err (offending 11 7) ∷ no_refusal ∷ Err (offending 11 7) ∷ no_refusal ∷
     -- H16@1, H5000, H51@0, H52##, H54##
-    Offence 11 9 ∷ Offence 11 7 ∷ Offence 11 7 ∷ Offence 11 7 ∷ Fine ∷ []
+    Err (offending 11 9) ∷ Err (offending 11 7) ∷ Err (offending 11 7) ∷ Err (offending 11 7) ∷ no_refusal ∷ []
 unfolding layouts missing_at verdict_from verdict_at first_from
 opened_verdicts = refl

@@ -12,7 +12,6 @@ use Rattle.value_text.proofs.text.Agreed.{printable_front}
 use Rattle.base_value.specs.declared.Columns.{Columns}
 use Rattle.base_value.specs.declared.Value.{Value}
 use Rattle.base_value.specs.declared.Value.TheVariants.{Absent, Whole, Decimal, Angle, Date, Text}
-use Rattle.base_value.specs.declared.Reading.TheVariants as reading
 use Rattle.value_field.specs.declared.spelling.Spelling.{Spelling}
 use Rattle.value_field.specs.spelling.Reading.{reading_of, is_text}
 use Rattle.value_field.specs.writing.Writing.{entry_of, text_entry_of, again_in, rewritten_of}
@@ -22,17 +21,13 @@ use Rattle.value_field.proofs.writing.Back.{value_back}
 use Rattle.format_layout.specs.declared.Field.{Field}
 use Rattle.format_layout.specs.Forms.{form_numbered}
 use Rattle.format_layout.specs.ranges.Ranges.{in_range}
-use Rattle.card_field.specs.declared.judging.Judged.TheVariants as judged
-use Rattle.card_field.specs.declared.FieldRead.TheVariants as read
-use Rattle.card_field.specs.declared.seeking.Sought.TheVariants as sought
 use Rattle.card_field.specs.seeking.Card.{sought_of}
 use Rattle.card_field.specs.judging.Fields.{on_card, value_of, held_of, judged_of}
-use Rattle.card_field.specs.needing.Needs.{columns_of, needed_on}
+use Rattle.card_field.specs.needing.Needs.{columns_of, needed_on, needed_after}
 use Rattle.card_field.specs.Reading.{field_reading, holds_text, field_text}
 use Rattle.card_field.proofs.seeking.Steps.{found-there, found-coded}
 use Rattle.card_field.proofs.Steps.{text-is}
 use Rattle.card_put.specs.Putting.{placed, placed_in, is_absent, within, by_entry, putting_of, putting_text_of}
-use Rattle.card_field.specs.needing.Needs.{needed_after}
 use Rattle.format_layout.specs.Columns.{width}
 use Rattle.card_field.proofs.seeking.Bytes.{bad-none, rest_printable}
 use Rattle.card_put.proofs.Steps.{columns_wide, field_fits, text-is as text-put-is}
@@ -41,22 +36,25 @@ use Rattle.card_laws.proofs.rewriting.Answers.{spelling_in, Read, was_read, put_
 use Rattle.card_laws.proofs.rewriting.Untouched.{value_outside}
 use Rattle.card_laws.proofs.rewriting.Back.{nothing_blank, value_put_back}
 use Rattle.card_laws.proofs.rewriting.Anew.{value_twice}
+use Rattle.std.specs.Prelude.{Ok, Err, Result}
+use Rattle.card_field.specs.Fields.{field_read}
+use Rattle.card_field.specs.seeking.Found.{sought}
 
 -- a value that passed need and range, and is no text, is the one that its columns say
 abbrev Passed : Bool → Field → Value → Value → Type 0
 Passed needed f u v = (u ≡ v) × (within f v ≡ true) × ((is_absent v && needed) ≡ false)
 
-value_passed : (needed : Bool) (f : Field) (u v : Value) → value_of needed f u ≡ judged.Is v → holds_text (judged.Is v) ≡ false
+value_passed : (needed : Bool) (f : Field) (u v : Value) → value_of needed f u ≡ Ok v → holds_text (Ok v) ≡ false
     → Passed needed f u v
 unfolding value_of holds_text
 value_passed needed f Absent v h x = go needed h
   where
-    go : (b : Bool) → cond b (judged.Not 11) (judged.Is Absent) ≡ judged.Is v → Passed b f Absent v
+    go : (b : Bool) → cond {A = Result Value ℕ} b (Err 11) (Ok Absent) ≡ Ok v → Passed b f Absent v
     go true h = absurd (zero_one cc)
     go false h = let q : Absent ≡ v = cc in subst (Passed false f Absent) q (refl, refl, refl)
 value_passed needed f (Whole z) v h x = go (in_range f.range z) refl h
   where
-    go : (b : Bool) → in_range f.range z ≡ b → cond b (judged.Is (Whole z)) (judged.Not 10) ≡ judged.Is v
+    go : (b : Bool) → in_range f.range z ≡ b → cond {A = Result Value ℕ} b (Ok (Whole z)) (Err 10) ≡ Ok v
         → Passed needed f (Whole z) v
     go true y h = let q : Whole z ≡ v = cc in subst (Passed needed f (Whole z)) q (refl, y, refl)
     go false y h = absurd (zero_one cc)
@@ -65,20 +63,20 @@ value_passed needed f (Angle z) v h x = let q : Angle z ≡ v = cc in subst (Pas
 value_passed needed f (Date d) v h x = let q : Date d ≡ v = cc in subst (Passed needed f (Date d)) q (refl, refl, refl)
 value_passed needed f (Text c) v h x =
     let q : on_card f (Text c) ≡ v = cc in
-    absurd (true≢false (ap (λ u. holds_text (judged.Is u)) q ∙ x))
+    absurd (true≢false (ap (λ u. holds_text (Ok u)) q ∙ x))
 
 -- a text was a text in its columns
-text-passed : (needed : Bool) (f : Field) (u : Value) (c : Columns) → value_of needed f u ≡ judged.Is (Text c)
+text-passed : (needed : Bool) (f : Field) (u : Value) (c : Columns) → value_of needed f u ≡ Ok (Text c)
     → (d : Columns) × (u ≡ Text d)
 unfolding value_of
 text-passed needed f Absent c h = go needed h
   where
-    go : (b : Bool) → cond b (judged.Not 11) (judged.Is Absent) ≡ judged.Is (Text c) → (d : Columns) × (Absent ≡ Text d)
+    go : (b : Bool) → cond {A = Result Value ℕ} b (Err 11) (Ok Absent) ≡ Ok (Text c) → (d : Columns) × (Absent ≡ Text d)
     go true h = absurd (zero_one cc)
     go false h = absurd (zero_one cc)
 text-passed needed f (Whole z) c h = go (in_range f.range z) h
   where
-    go : (b : Bool) → cond b (judged.Is (Whole z)) (judged.Not 10) ≡ judged.Is (Text c) → (d : Columns) × (Whole z ≡ Text d)
+    go : (b : Bool) → cond {A = Result Value ℕ} b (Ok (Whole z)) (Err 10) ≡ Ok (Text c) → (d : Columns) × (Whole z ≡ Text d)
     go true h = absurd (zero_one cc)
     go false h = absurd (zero_one cc)
 text-passed needed f (Decimal d) c h = absurd (zero_one cc)
@@ -88,12 +86,12 @@ text-passed needed f (Text d) c h = (d, refl)
 
 -- what columns say can be entered in their width
 module _ (k : Spelling) (t : List ℕ) where
-  rewritten : (v : Value) → reading_of k t ≡ reading.Held v → is_text (reading.Held v) ≡ false
-      → (u : List ℕ) × (again_in k t (reading.Held v) ≡ agreed u)
+  rewritten : (v : Value) → reading_of k t ≡ Ok v → is_text (Ok v) ≡ false
+      → (u : List ℕ) × (again_in k t (Ok v) ≡ agreed u)
   unfolding rewritten_of
   rewritten v e x = let r = columns-rewritten k t v e x in (r.columns, sym (ap (again_in k t) e) ∙ r.rewritten)
 
-  entry_agrees : (v : Value) → reading_of k t ≡ reading.Held v → holds_text (judged.Is v) ≡ false
+  entry_agrees : (v : Value) → reading_of k t ≡ Ok v → holds_text (Ok v) ≡ false
       → (u : List ℕ) × (entry_of k (length t) v ≡ agreed u)
   unfolding again_in is_text holds_text
   entry_agrees Absent e x = rewritten Absent e refl
@@ -103,12 +101,12 @@ module _ (k : Spelling) (t : List ℕ) where
   entry_agrees (Date d) e x = rewritten (Date d) e refl
   entry_agrees (Text c) e x = absurd (true≢false x)
 
-  text_agrees : (c : Columns) → reading_of k t ≡ reading.Held (Text c) → printable t ≡ true
+  text_agrees : (c : Columns) → reading_of k t ≡ Ok (Text c) → printable t ≡ true
       → text_entry_of k (length t) (text_of t) ≡ agreed t
   unfolding rewritten_of again_in
   text_agrees c e p = sym (ap (again_in k t) e) ∙ columns-kept k t c e p
 
-module _ (s : List ℕ) (n form k : ℕ) (f : Field) (q : sought_of s n form ≡ sought.Is k f) where
+module _ (s : List ℕ) (n form k : ℕ) (f : Field) (q : sought_of s n form ≡ Ok (sought k f)) where
   wide : length (columns_of f s) ≡ width f
   unfolding columns_of
   wide =
@@ -131,7 +129,7 @@ module _ (s : List ℕ) (n form k : ℕ) (f : Field) (q : sought_of s n form ≡
   handed h = text-is s n form k f q (judged_of k s f (form_numbered form)) refl h f.first f.last refl refl (columns_of f s) refl
 
   -- a value whose need the card met does not become needed by being put again
-  still_free : (v : Value) → reading_of (spelling_in f form) (columns_of f s) ≡ reading.Held v
+  still_free : (v : Value) → reading_of (spelling_in f form) (columns_of f s) ≡ Ok v
       → (is_absent v && needed_on k s f) ≡ false → (is_absent v && needed_after k s n f) ≡ false
   still_free Absent e h =
       sym (blank_need k n f (found-there s n form k f q).field s (nothing_blank (spelling_in f form) (columns_of f s) e)) ∙ h
@@ -145,32 +143,32 @@ module _ (s : List ℕ) (n form k : ℕ) (f : Field) (q : sought_of s n form ≡
 pub record Rewritten (s : List ℕ) (n form : ℕ) (v : Value) : Type 0 where
   pub card : List ℕ
   pub put : putting_of s n form v ≡ placed card
-  pub says : field_reading card n form ≡ read.Is v false
+  pub says : field_reading card n form ≡ Ok (field_read v false)
   pub twice : putting_of card n form v ≡ placed card
   pub whole : length card ≡ 80
 
 -- columns that say a value, and the entry by which it is put into them again
 record Again (s : List ℕ) (n form : ℕ) (v : Value) (f : Field) : Type 0 where
-  says : reading_of (spelling_in f form) (columns_of f s) ≡ reading.Held v
+  says : reading_of (spelling_in f form) (columns_of f s) ≡ Ok v
   columns : List ℕ
   entry : entry_of (spelling_in f form) (length (columns_of f s)) v ≡ agreed columns
   put : putting_of s n form v ≡ placed (placed_in f s columns)
 
 module _ (s : List ℕ) (n form : ℕ) where
-  again : (v : Value) (r : Read s n form v) → holds_text (judged.Is v) ≡ false → Again s n form v r.field
+  again : (v : Value) (r : Read s n form v) → holds_text (Ok v) ≡ false → Again s n form v r.field
   again v r x =
       let k = r.code in
       let f = r.field in
       let q = r.found in
       let h = value_passed (needed_on k s f) f r.value v r.held x in
-      let e = r.says ∙ ap reading.Held h.0 in
+      let e = r.says ∙ ap Ok h.0 in
       let a = entry_agrees (spelling_in f form) (columns_of f s) v e x in
       let fits = ap (λ w. entry_of (spelling_in f form) w v) (sym (wide s n form k f q)) ∙ a.1 in
       let free = still_free s n form k f q v e h.2 in
       record { says = e; columns = a.0; entry = a.1; put = put_so s n form k f q v a.0 fits h.1 free }
 
   -- a value that was read, misplaced or not, put again
-  pub value_rewritten : (v : Value) {b : Bool} → field_reading s n form ≡ read.Is v b → holds_text (judged.Is v) ≡ false → Rewritten s n form v
+  pub value_rewritten : (v : Value) {b : Bool} → field_reading s n form ≡ Ok (field_read v b) → holds_text (Ok v) ≡ false → Rewritten s n form v
   value_rewritten v e x =
       let r = was_read s n form v e in
       let a = again v r x in
@@ -185,7 +183,7 @@ module _ (s : List ℕ) (n form : ℕ) where
       }
 
   -- a text that was read, put again, leaves the very card
-  pub text_rewritten : (c : Columns) {b : Bool} → field_reading s n form ≡ read.Is (Text c) b
+  pub text_rewritten : (c : Columns) {b : Bool} → field_reading s n form ≡ Ok (field_read (Text c) b)
       → putting_text_of s n form (field_text s n form) ≡ placed s
   unfolding by_entry held_of judged_of holds_text
   text_rewritten c e =
@@ -195,8 +193,8 @@ module _ (s : List ℕ) (n form : ℕ) where
       let sp = spelling_in f form in
       let h = text-passed (needed_on k s f) f r.value c r.held in
       let t = columns_of f s in
-      let a = text_agrees sp t h.0 (r.says ∙ ap reading.Held h.1) (printed s n form k f r.found) in
-      let j : judged_of k s f (form_numbered form) ≡ judged.Is (Text c) = ap (held_of (needed_on k s f) f) r.says ∙ r.held in
+      let a = text_agrees sp t h.0 (r.says ∙ ap Ok h.1) (printed s n form k f r.found) in
+      let j : judged_of k s f (form_numbered form) ≡ Ok (Text c) = ap (held_of (needed_on k s f) f) r.says ∙ r.held in
       let x : text_of t ≡ field_text s n form = handed s n form k f r.found (ap holds_text j) in
       text-put-is s n form k f r.found (form_numbered form) refl (field_text s n form)
       ∙ ap (λ y. by_entry f s (text_entry_of sp (width f) y)) (sym x)
@@ -205,7 +203,7 @@ module _ (s : List ℕ) (n form : ℕ) where
       ∙ ap placed (same_columns s n form k f r.found)
 
   -- a field that is blank, blanked, leaves the very card
-  pub absent_rewritten : {b : Bool} → field_reading s n form ≡ read.Is Absent b → putting_of s n form Absent ≡ placed s
+  pub absent_rewritten : {b : Bool} → field_reading s n form ≡ Ok (field_read Absent b) → putting_of s n form Absent ≡ placed s
   unfolding holds_text
   absent_rewritten e =
       let r = was_read s n form Absent e in

@@ -3,10 +3,10 @@ use Prim.Native.Nat.{ℕ, ◌+◌, ◌-◌, ◌≤◌}
 use native.Mathlib.Omega.{arith}
 use mathlib.Core.Path.{◌≡◌, refl, sym, ap, ap₂, ◌∙◌}
 use mathlib.Core.List.{List, ◌++◌}
-use mathlib.Core.Bool.{Bool, false, ◌&&◌, true≢false}
+use mathlib.Core.Bool.{Bool, false, ◌&&◌}
 use lib.ListN.{take, drop}
 use lib.Seq.{take-take, drop-drop}
-use Rattle.base_refusal.specs.declared.Written.TheVariants as written
+use Rattle.base_refusal.specs.declared.Unwritten.TheVariants as unwritten
 use Rattle.base_digits.specs.digits.Columns.{Entry, agreed, refused}
 use Rattle.base_value.specs.declared.Value.{Value}
 use Rattle.value_field.specs.writing.Writing.{entry_of, text_entry_of}
@@ -14,12 +14,10 @@ use Rattle.format_layout.specs.declared.Field.{Field}
 use Rattle.format_layout.specs.Forms.{form_numbered}
 use Rattle.format_code.specs.Codes.{code_of}
 use Rattle.format_layout.proofs.Numbers.{found_lies}
-use Rattle.card_field.specs.declared.seeking.Sought.TheVariants as sought
 use Rattle.card_field.specs.seeking.Card.{coded, sought_of}
 use Rattle.card_field.proofs.seeking.Steps.{found-there, found-coded}
-use Rattle.card_put.specs.Putting.{Putting, placed, placed_in, is_absent, within, is_other, came_of, by_entry, value_put}
+use Rattle.card_put.specs.Putting.{Putting, placed, placed_in, is_absent, within, is_other, came_of, by_entry, value_put, putting_of, putting_text_of}
 use Rattle.format_layout.specs.Columns.{width}
-use Rattle.card_put.specs.Putting.{putting_of, putting_text_of}
 use Rattle.card_put.proofs.Steps.{value_is, text-is}
 use Rattle.card_put.proofs.Untouched.{Outside}
 use Rattle.card_laws.proofs.rewriting.Need.{need_alike}
@@ -27,6 +25,8 @@ use Rattle.card_laws.proofs.rewriting.Reasons.{is_done, value_reason, text_reaso
 use Rattle.card_laws.proofs.rewriting.Answers.{spelling_in, unless, put_made, text_made, was_read}
 use Rattle.card_laws.proofs.rewriting.Untouched.{value_outside, text_outside}
 use Rattle.card_laws.proofs.rewriting.Back.{value_put_back, text-columns_back}
+use Rattle.std.specs.Prelude.{Ok}
+use Rattle.card_field.specs.seeking.Found.{sought}
 
 -- the same columns in a field of two cards that are alike outside it
 module _ (f : Field) (s r : List ℕ) (o : Outside f s r) (forward : f.first ≤ f.last) where
@@ -41,16 +41,15 @@ module _ (f : Field) (s r : List ℕ) (o : Outside f s r) (forward : f.first ≤
   entry-alike : (e : Entry) → is_done e ≡ false → by_entry f r e ≡ by_entry f s e
   unfolding by_entry came_of
   entry-alike (agreed t) d = ap placed (placed_alike t)
-  entry-alike (refused written.Done) d = absurd (true≢false d)
-  entry-alike (refused written.Unprintable) d = refl
-  entry-alike (refused written.Malformed) d = refl
-  entry-alike (refused written.OutOfRange) d = refl
-  entry-alike (refused written.OtherKind) d = refl
-  entry-alike (refused written.NoRoom) d = refl
+  entry-alike (refused unwritten.Unprintable) d = refl
+  entry-alike (refused unwritten.Malformed) d = refl
+  entry-alike (refused unwritten.OutOfRange) d = refl
+  entry-alike (refused unwritten.OtherKind) d = refl
+  entry-alike (refused unwritten.NoRoom) d = refl
 
 -- two cards that are alike outside a field, the field being found on both
-module _ (s r : List ℕ) (n form k j : ℕ) (f g : Field) (q : sought_of s n form ≡ sought.Is k f)
-    (p : sought_of r n form ≡ sought.Is j g) (o : Outside f s r) where
+module _ (s r : List ℕ) (n form k j : ℕ) (f g : Field) (q : sought_of s n form ≡ Ok (sought k f))
+    (p : sought_of r n form ≡ Ok (sought j g)) (o : Outside f s r) where
   forward : f.first ≤ f.last
   forward = (found_lies k n f (found-there s n form k f q).field).forward
 
@@ -60,7 +59,7 @@ module _ (s r : List ℕ) (n form k j : ℕ) (f g : Field) (q : sought_of s n fo
       sym (take-take 5 (f.first - 1) r l) ∙ ap (take 5) o.before ∙ take-take 5 (f.first - 1) s l
 
   -- the field found is the same
-  pub same_field : sought_of r n form ≡ sought.Is k f
+  pub same_field : sought_of r n form ≡ Ok (sought k f)
   same_field =
       p ∙ sym (found-coded r n form j g p).1 ∙ ap (λ c. coded (code_of c) n form) same_code ∙ (found-coded s n form k f q).1
 

@@ -2,34 +2,32 @@
 use Prim.Native.Nat.{ℕ}
 use mathlib.Core.Path.{◌≡◌, refl, ap, ◌∙◌}
 use mathlib.Core.List.{List}
-use mathlib.Core.Bool.{Bool, true, false, cond, ◌&&◌, true≢false}
-use Rattle.base_refusal.specs.declared.Written.TheVariants as written
+use mathlib.Core.Bool.{Bool, true, false, cond, ◌&&◌}
+use Rattle.base_refusal.specs.declared.Unwritten.TheVariants as unwritten
 use Rattle.base_digits.specs.digits.Columns.{Entry, agreed, refused}
 use Rattle.base_value.specs.declared.Value.{Value}
-use Rattle.base_value.specs.declared.Reading.{Reading}
-use Rattle.base_value.specs.declared.Reading.TheVariants as reading
+use Rattle.base_value.specs.declared.Unread.TheVariants as unread
 use Rattle.value_field.specs.declared.spelling.Spelling.{Spelling}
 use Rattle.value_field.specs.spelling.Reading.{reading_of}
 use Rattle.value_field.specs.writing.Writing.{entry_of, text_entry_of}
 use Rattle.value_field.proofs.spelling.Absence.{zero_one}
 use Rattle.format_layout.specs.declared.Field.{Field}
 use Rattle.format_layout.specs.Forms.{form_numbered}
-use Rattle.card_field.specs.declared.judging.Judged.{Judged}
-use Rattle.card_field.specs.declared.judging.Judged.TheVariants as judged
-use Rattle.card_field.specs.declared.FieldRead.TheVariants as read
-use Rattle.card_field.specs.declared.seeking.Sought.{Sought}
-use Rattle.card_field.specs.declared.seeking.Sought.TheVariants as sought
 use Rattle.base_refusal.specs.Refusals.{refusal}
 use Rattle.card_field.specs.seeking.Card.{sought_of}
 use Rattle.card_field.specs.judging.Fields.{spelling_of, value_of, held_of, judged_of, misplaced_on}
-use Rattle.card_field.specs.needing.Needs.{columns_of, needed_on}
+use Rattle.card_field.specs.needing.Needs.{columns_of, needed_on, needed_after}
 use Rattle.card_field.specs.Reading.{answered_of, field_on, field_reading}
-use Rattle.card_put.specs.Putting.{Putting, placed, stays, placed_in, is_absent, within, is_other, came_of, by_entry}
-use Rattle.card_field.specs.needing.Needs.{needed_after}
+use Rattle.card_put.specs.Putting.{Putting, placed, stays, placed_in, is_absent, within, is_other, came_of, by_entry, value_put, value_at, text_at, putting_of, putting_text_of}
 use Rattle.format_layout.specs.Columns.{width}
-use Rattle.card_put.specs.Putting.{value_put, value_at, text_at, putting_of, putting_text_of}
 use Rattle.card_put.proofs.Steps.{value_is, put_entered}
 use Rattle.card_laws.proofs.rewriting.Reasons.{is_done, value_reason, text_reason}
+use Rattle.std.specs.Prelude.{Result, Ok, Err}
+use Rattle.card_field.specs.declared.FieldRead.{FieldRead}
+use Rattle.base_refusal.specs.declared.Refusal.{Refusal}
+use Rattle.base_value.specs.declared.Unread.{Unread}
+use Rattle.card_field.specs.Fields.{field_read}
+use Rattle.card_field.specs.seeking.Found.{Sought, sought}
 
 -- how a field is spelled in a form
 abbrev pub spelling_in : Field → ℕ → Spelling
@@ -46,18 +44,17 @@ entry_made : (f : Field) (s card : List ℕ) (e : Entry) → is_done e ≡ false
     → (t : List ℕ) × (e ≡ agreed t) × (placed_in f s t ≡ card)
 unfolding by_entry came_of
 entry_made f s card (agreed t) d h = (t, refl, cc)
-entry_made f s card (refused written.Done) d h = absurd (true≢false d)
-entry_made f s card (refused written.Unprintable) d h = absurd (zero_one cc)
-entry_made f s card (refused written.Malformed) d h = absurd (zero_one cc)
-entry_made f s card (refused written.OutOfRange) d h = absurd (zero_one cc)
-entry_made f s card (refused written.OtherKind) d h = absurd (zero_one cc)
-entry_made f s card (refused written.NoRoom) d h = absurd (zero_one cc)
+entry_made f s card (refused unwritten.Unprintable) d h = absurd (zero_one cc)
+entry_made f s card (refused unwritten.Malformed) d h = absurd (zero_one cc)
+entry_made f s card (refused unwritten.OutOfRange) d h = absurd (zero_one cc)
+entry_made f s card (refused unwritten.OtherKind) d h = absurd (zero_one cc)
+entry_made f s card (refused unwritten.NoRoom) d h = absurd (zero_one cc)
 
 -- a value that was put: the field that was found, what its columns now hold, and that neither range nor need forbade it
 pub record Put (s : List ℕ) (n form : ℕ) (v : Value) (card : List ℕ) : Type 0 where
   pub code : ℕ
   pub field : Field
-  pub found : sought_of s n form ≡ sought.Is code field
+  pub found : sought_of s n form ≡ Ok (sought code field)
   pub columns : List ℕ
   pub entry : entry_of (spelling_in field form) (width field) v ≡ agreed columns
   pub card_is : placed_in field s columns ≡ card
@@ -68,7 +65,7 @@ pub put_made : (s : List ℕ) (n form : ℕ) (v : Value) (card : List ℕ) → p
 unfolding putting_of value_at value_put
 put_made s n form v card e = go (sought_of s n form) refl e
   where
-    made : (k : ℕ) (f : Field) → sought_of s n form ≡ sought.Is k f → (a b : Bool) → (is_absent v && needed_after k s n f) ≡ b
+    made : (k : ℕ) (f : Field) → sought_of s n form ≡ Ok (sought k f) → (a b : Bool) → (is_absent v && needed_after k s n f) ≡ b
         → (c : Bool) → within f v ≡ c
         → unless f a b c (by_entry f s (entry_of (spelling_in f form) (width f) v)) ≡ placed card → Put s n form v card
     made k f q true b x c y h = absurd (zero_one cc)
@@ -79,14 +76,14 @@ put_made s n form v card e = go (sought_of s n form) refl e
         let m = entry_made f s card (entry_of sp (width f) v) (value_reason (width f) sp v) h in
         record { code = k; field = f; found = q; columns = m.0; entry = m.1; card_is = m.2; ranged = y; free = x }
 
-    go : (o : Sought) → sought_of s n form ≡ o → value_at s n (form_numbered form) v o ≡ placed card → Put s n form v card
-    go (sought.Refused r) q h = absurd (zero_one cc)
-    go (sought.Is k f) q h =
-        let e = entry_of (spelling_in f form) (width f) v in
-        made k f q (is_other e) (is_absent v && needed_after k s n f) refl (within f v) refl h
+    go : (o : Result Sought Refusal) → sought_of s n form ≡ o → value_at s n (form_numbered form) v o ≡ placed card → Put s n form v card
+    go (Err r) q h = absurd (zero_one cc)
+    go (Ok o) q h =
+        let e = entry_of (spelling_in o.field form) (width o.field) v in
+        made o.layout o.field q (is_other e) (is_absent v && needed_after o.layout s n o.field) refl (within o.field v) refl h
 
 -- and that is all it takes
-pub put_so : (s : List ℕ) (n form k : ℕ) (f : Field) → sought_of s n form ≡ sought.Is k f → (v : Value) (t : List ℕ)
+pub put_so : (s : List ℕ) (n form k : ℕ) (f : Field) → sought_of s n form ≡ Ok (sought k f) → (v : Value) (t : List ℕ)
     → entry_of (spelling_in f form) (width f) v ≡ agreed t → within f v ≡ true → (is_absent v && needed_after k s n f) ≡ false
     → putting_of s n form v ≡ placed (placed_in f s t)
 unfolding by_entry
@@ -97,7 +94,7 @@ put_so s n form k f q v t e h g =
 pub record PutText (s : List ℕ) (n form : ℕ) (x card : List ℕ) : Type 0 where
   pub code : ℕ
   pub field : Field
-  pub found : sought_of s n form ≡ sought.Is code field
+  pub found : sought_of s n form ≡ Ok (sought code field)
   pub columns : List ℕ
   pub entry : text_entry_of (spelling_in field form) (width field) x ≡ agreed columns
   pub card_is : placed_in field s columns ≡ card
@@ -106,39 +103,39 @@ pub text_made : (s : List ℕ) (n form : ℕ) (x card : List ℕ) → putting_te
 unfolding putting_text_of text_at
 text_made s n form x card e = go (sought_of s n form) refl e
   where
-    go : (o : Sought) → sought_of s n form ≡ o → text_at s (form_numbered form) x o ≡ placed card → PutText s n form x card
-    go (sought.Refused r) q h = absurd (zero_one cc)
-    go (sought.Is k f) q h =
-        let sp = spelling_in f form in
-        let m = entry_made f s card (text_entry_of sp (width f) x) (text_reason (width f) sp x) h in
-        record { code = k; field = f; found = q; columns = m.0; entry = m.1; card_is = m.2 }
+    go : (o : Result Sought Refusal) → sought_of s n form ≡ o → text_at s (form_numbered form) x o ≡ placed card → PutText s n form x card
+    go (Err r) q h = absurd (zero_one cc)
+    go (Ok o) q h =
+        let sp = spelling_in o.field form in
+        let m = entry_made o.field s card (text_entry_of sp (width o.field) x) (text_reason (width o.field) sp x) h in
+        record { code = o.layout; field = o.field; found = q; columns = m.0; entry = m.1; card_is = m.2 }
 
 -- a value that was read: the field that was found, and what its columns say
 pub record Read (s : List ℕ) (n form : ℕ) (v : Value) : Type 0 where
   pub code : ℕ
   pub field : Field
-  pub found : sought_of s n form ≡ sought.Is code field
+  pub found : sought_of s n form ≡ Ok (sought code field)
   pub value : Value
-  pub says : reading_of (spelling_in field form) (columns_of field s) ≡ reading.Held value
-  pub held : value_of (needed_on code s field) field value ≡ judged.Is v
+  pub says : reading_of (spelling_in field form) (columns_of field s) ≡ Ok value
+  pub held : value_of (needed_on code s field) field value ≡ Ok v
 
 -- misplaced or not
-pub was_read : (s : List ℕ) (n form : ℕ) (v : Value) {b : Bool} → field_reading s n form ≡ read.Is v b → Read s n form v
+pub was_read : (s : List ℕ) (n form : ℕ) (v : Value) {b : Bool} → field_reading s n form ≡ Ok (field_read v b) → Read s n form v
 unfolding field_reading field_on answered_of judged_of held_of
 was_read s n form v {b} e = go (sought_of s n form) refl e
   where
-    judgment : (f : Field) (a : Bool) (j : Judged) → answered_of f a j ≡ read.Is v b → j ≡ judged.Is v
-    judgment f a (judged.Is u) h = let q : u ≡ v = cc in ap judged.Is q
-    judgment f a (judged.Not m) h = absurd (zero_one cc)
+    judgment : (f : Field) (a : Bool) (j : Result Value ℕ) → answered_of f a j ≡ Ok (field_read v b) → j ≡ Ok v
+    judgment f a (Ok u) h = let same : field_read u a ≡ field_read v b = cc in ap (λ (x : FieldRead). Ok x.value) same
+    judgment f a (Err m) h = absurd (zero_one cc)
 
-    by : (k : ℕ) (f : Field) → sought_of s n form ≡ sought.Is k f → (r : Reading)
-        → reading_of (spelling_in f form) (columns_of f s) ≡ r → answered_of f (misplaced_on s f (form_numbered form)) (held_of (needed_on k s f) f r) ≡ read.Is v b
+    by : (k : ℕ) (f : Field) → sought_of s n form ≡ Ok (sought k f) → (r : Result Value Unread)
+        → reading_of (spelling_in f form) (columns_of f s) ≡ r → answered_of f (misplaced_on s f (form_numbered form)) (held_of (needed_on k s f) f r) ≡ Ok (field_read v b)
         → Read s n form v
-    by k f q reading.Malformed x h = absurd (zero_one cc)
-    by k f q reading.OutOfRange x h = absurd (zero_one cc)
-    by k f q (reading.Held u) x h =
+    by k f q (Err unread.Malformed) x h = absurd (zero_one cc)
+    by k f q (Err unread.OutOfRange) x h = absurd (zero_one cc)
+    by k f q (Ok u) x h =
         record { code = k; field = f; found = q; value = u; says = x; held = judgment f _ (value_of (needed_on k s f) f u) h }
 
-    go : (o : Sought) → sought_of s n form ≡ o → field_on s (form_numbered form) o ≡ read.Is v b → Read s n form v
-    go (sought.Refused r) q h = absurd (zero_one cc)
-    go (sought.Is k f) q h = by k f q (reading_of (spelling_in f form) (columns_of f s)) refl h
+    go : (o : Result Sought Refusal) → sought_of s n form ≡ o → field_on s (form_numbered form) o ≡ Ok (field_read v b) → Read s n form v
+    go (Err r) q h = absurd (zero_one cc)
+    go (Ok o) q h = by o.layout o.field q (reading_of (spelling_in o.field form) (columns_of o.field s)) refl h

@@ -9,13 +9,12 @@ use lib.Seq.{take-take, drop-drop}
 use lib.Dec.{eqb, ltb}
 use borrow.Author.Tests.{eqb-true, eqb-false, ltb-true, ltb-false}
 use Rattle.format_layout.specs.declared.Field.{Field}
-use Rattle.format_layout.specs.declared.Found.TheVariants as found
 use Rattle.format_layout.specs.Layouts.{fields_of, field_of, no_field}
 use Rattle.format_layout.proofs.Columns.{after_label, ends-before}
 use Rattle.format_layout.proofs.Numbers.{numbered}
-use Rattle.card_field.specs.needing.Needs.{columns_of, is_blank, second_at, any_second, needed_on}
-use Rattle.card_field.specs.needing.Needs.{other_second, needed_after}
+use Rattle.card_field.specs.needing.Needs.{columns_of, is_blank, second_at, any_second, needed_on, other_second, needed_after}
 use Rattle.card_put.proofs.Untouched.{Outside}
+use Rattle.std.specs.Prelude.{Some}
 
 -- a part of two lists that begin alike, and of two that end alike
 front_part : (at k n : ℕ) (s : List ℕ) → at + k ≤ n → take k (drop at (take n s)) ≡ take k (drop at s)
@@ -78,7 +77,7 @@ blank_other s n m (f ∷ fs) h =
         ap (λ b. f.second && not b) (h 0 (omega arith) (omega arith)) ∙ none f.second
     go false q = refl
 
-module _ (k n : ℕ) (f : Field) (e : field_of k n ≡ found.Is f) where
+module _ (k n : ℕ) (f : Field) (e : field_of k n ≡ Some f) where
   others : (s r : List ℕ) → Outside f s r → (i : ℕ) → i < length (fields_of k) → (1 + i ≡ n → ⊥)
       → columns_of (get_or (fields_of k) i no_field) r ≡ columns_of (get_or (fields_of k) i no_field) s
   others s r o i h d = go (ltb (1 + i) n) refl

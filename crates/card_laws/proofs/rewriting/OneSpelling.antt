@@ -7,9 +7,6 @@ use Rattle.base_value.specs.declared.Columns.{Columns}
 use Rattle.base_value.specs.declared.Value.{Value}
 use Rattle.base_value.specs.declared.Value.TheVariants.{Text}
 use Rattle.format_layout.specs.declared.Field.{Field}
-use Rattle.card_field.specs.declared.judging.Judged.TheVariants as judged
-use Rattle.card_field.specs.declared.FieldRead.TheVariants as read
-use Rattle.card_field.specs.declared.seeking.Sought.TheVariants as sought
 use Rattle.card_field.specs.seeking.Card.{sought_of}
 use Rattle.card_field.specs.Reading.{field_reading, holds_text, field_text}
 use Rattle.card_put.specs.Putting.{placed, putting_of, putting_text_of}
@@ -17,6 +14,9 @@ use Rattle.card_put.proofs.Untouched.{Outside}
 use Rattle.card_laws.proofs.rewriting.Answers.{was_read}
 use Rattle.card_laws.proofs.rewriting.Anew.{value_anew, text_anew}
 use Rattle.card_laws.proofs.rewriting.Agreed.{value_rewritten, text_rewritten}
+use Rattle.std.specs.Prelude.{Ok}
+use Rattle.card_field.specs.Fields.{field_read}
+use Rattle.card_field.specs.seeking.Found.{sought}
 
 -- the one card that putting a value into either leaves
 pub record OneCard (s r : List ℕ) (n form : ℕ) (v : Value) : Type 0 where
@@ -24,10 +24,10 @@ pub record OneCard (s r : List ℕ) (n form : ℕ) (v : Value) : Type 0 where
   pub from_one : putting_of s n form v ≡ placed card
   pub from-other : putting_of r n form v ≡ placed card
 
-module _ (s r : List ℕ) (n form k : ℕ) (f : Field) (q : sought_of s n form ≡ sought.Is k f) (o : Outside f s r) where
+module _ (s r : List ℕ) (n form k : ℕ) (f : Field) (q : sought_of s n form ≡ Ok (sought k f)) (o : Outside f s r) where
   -- a value that is no text
-  pub one_card : (v : Value) {a b : Bool} → holds_text (judged.Is v) ≡ false → field_reading s n form ≡ read.Is v a
-      → field_reading r n form ≡ read.Is v b → OneCard s r n form v
+  pub one_card : (v : Value) {a b : Bool} → holds_text (Ok v) ≡ false → field_reading s n form ≡ Ok (field_read v a)
+      → field_reading r n form ≡ Ok (field_read v b) → OneCard s r n form v
   one_card v x e d =
       let a = value_rewritten s n form v e x in
       let b = was_read r n form v d in
@@ -35,7 +35,7 @@ module _ (s r : List ℕ) (n form k : ℕ) (f : Field) (q : sought_of s n form �
       record { card = a.card; from_one = a.put; from-other = same ∙ a.put }
 
   -- a text has one spelling only: cards that hand back the same one are the same
-  pub one_text : (c d : Columns) {a b : Bool} → field_reading s n form ≡ read.Is (Text c) a → field_reading r n form ≡ read.Is (Text d) b
+  pub one_text : (c d : Columns) {a b : Bool} → field_reading s n form ≡ Ok (field_read (Text c) a) → field_reading r n form ≡ Ok (field_read (Text d) b)
       → field_text s n form ≡ field_text r n form → s ≡ r
   one_text c d e h t =
       let b = was_read r n form (Text d) h in

@@ -2,12 +2,11 @@
 use Prim.Native.Nat.{ℕ, ◌-◌}
 use mathlib.Core.Path.{◌≡◌, refl}
 use mathlib.Core.List.{List, [], ◌∷◌, ◌++◌}
-use mathlib.Core.Option.{Option, none, some}
 use mathlib.Core.Bool.{Bool, true, false, cond, not}
 use lib.ListN.{length, replicate}
 use lib.Dec.{eqb, leb}
 use lib.IntN.{nat_abs}
-use Rattle.base_refusal.specs.declared.Written.TheVariants as written
+use Rattle.base_refusal.specs.declared.Unwritten.TheVariants as unwritten
 use Rattle.base_digits.specs.digits.Digits.{digits}
 use Rattle.base_digits.specs.digits.Columns.{Entry, agreed, refused, room_of}
 use Rattle.base_digits.specs.signs.Signs.{is_minus}
@@ -25,39 +24,39 @@ use Rattle.base_value.specs.declared.Value.TheVariants.{Absent, Whole, Decimal, 
 use Rattle.value_field.specs.declared.spelling.Spelling.{Spelling}
 use Rattle.value_field.specs.declared.spelling.Spelling.TheVariants as spelled
 use Rattle.value_field.specs.writing.Writing.{no_value_in, whole_in, units_in, day_in, arc_in, grid_entry_in, entry_of, text_entry_of}
+use Rattle.std.specs.Prelude.{Option, None, Some}
 
 -- a refusal's reason is never that all is done
 abbrev pub is_done : Entry → Bool
 is_done (agreed t) = false
-is_done (refused written.Done) = true
-is_done (refused written.Unprintable) = false
-is_done (refused written.Malformed) = false
-is_done (refused written.OutOfRange) = false
-is_done (refused written.OtherKind) = false
-is_done (refused written.NoRoom) = false
+is_done (refused unwritten.Unprintable) = false
+is_done (refused unwritten.Malformed) = false
+is_done (refused unwritten.OutOfRange) = false
+is_done (refused unwritten.OtherKind) = false
+is_done (refused unwritten.NoRoom) = false
 
 tested : (a b : Bool) (t : List ℕ)
-    → is_done (cond a (cond b (agreed t) (refused written.NoRoom)) (refused written.OutOfRange)) ≡ false
+    → is_done (cond a (cond b (agreed t) (refused unwritten.NoRoom)) (refused unwritten.OutOfRange)) ≡ false
 tested true true t = refl
 tested true false t = refl
 tested false b t = refl
 
 text_tested : (p f r : Bool) (t : List ℕ)
-    → is_done (cond (not p) (refused written.Unprintable)
-    (cond (not f) (refused written.Malformed) (cond r (agreed t) (refused written.NoRoom)))) ≡ false
+    → is_done (cond (not p) (refused unwritten.Unprintable)
+    (cond (not f) (refused unwritten.Malformed) (cond r (agreed t) (refused unwritten.NoRoom)))) ≡ false
 text_tested false f r t = refl
 text_tested true false r t = refl
 text_tested true true true t = refl
 text_tested true true false t = refl
 
 room_reason : (o : Option (List ℕ)) → is_done (room_of o) ≡ false
-room_reason (some t) = refl
-room_reason none = refl
+room_reason (Some t) = refl
+room_reason None = refl
 
-letter_reason : (b : Bool) (c : ℕ) (o : Option (List ℕ)) → is_done (cond b (refused written.NoRoom) (lettered c o)) ≡ false
+letter_reason : (b : Bool) (c : ℕ) (o : Option (List ℕ)) → is_done (cond b (refused unwritten.NoRoom) (lettered c o)) ≡ false
 letter_reason true c o = refl
-letter_reason false c (some t) = refl
-letter_reason false c none = refl
+letter_reason false c (Some t) = refl
+letter_reason false c None = refl
 
 module _ (w : ℕ) where
   no_value_reason : (v : Value) → is_done (no_value_in w v) ≡ false
@@ -145,7 +144,7 @@ module _ (w : ℕ) where
   text_reason spelled.Easting x = refl
 
 -- no spelling takes a text as a value
-pub text_no_value : (k : Spelling) (w : ℕ) (c : Columns) → entry_of k w (Text c) ≡ refused written.OtherKind
+pub text_no_value : (k : Spelling) (w : ℕ) (c : Columns) → entry_of k w (Text c) ≡ refused unwritten.OtherKind
 unfolding entry_of no_value_in whole_in units_in day_in arc_in grid_entry_in
 text_no_value spelled.Text w c = refl
 text_no_value spelled.Comment w c = refl

@@ -8,11 +8,12 @@ use lib.Seq.{get_or-take, get_or-drop}
 use Rattle.base_value.specs.declared.Value.{Value}
 use Rattle.format_layout.specs.declared.Field.{Field}
 use Rattle.format_layout.proofs.Numbers.{found_lies}
-use Rattle.card_field.specs.declared.seeking.Sought.TheVariants as sought
 use Rattle.card_field.specs.seeking.Card.{sought_of}
 use Rattle.card_field.proofs.seeking.Steps.{found-there}
 use Rattle.card_put.specs.Putting.{Putting, placed, left_by, putting_of, putting_text_of}
 use Rattle.card_put.proofs.Untouched.{Outside, value_untouched, text_untouched}
+use Rattle.std.specs.Prelude.{Ok}
+use Rattle.card_field.specs.seeking.Found.{sought}
 
 -- every column outside a field is the same on two cards, and so is their number
 pub record Unchanged (f : Field) (s card : List ℕ) : Type 0 where
@@ -37,7 +38,7 @@ by_column f s card l o =
       length-is = o.length-is;
     }
 
-module _ (s : List ℕ) (n form k : ℕ) (f : Field) (q : sought_of s n form ≡ sought.Is k f) (card : List ℕ) where
+module _ (s : List ℕ) (n form k : ℕ) (f : Field) (q : sought_of s n form ≡ Ok (sought k f)) (card : List ℕ) where
   after_code : 2 ≤ f.first
   after_code = omega (arith, (found_lies k n f (found-there s n form k f q).field).after)
 

@@ -1,6 +1,5 @@
 -- A table of refusals: its rows in the order in which they are judged, each a test with the refusal that it gives.
-use Rattle.std.specs.Prelude.{ℕ, ◌<◌, ◌≡◌, List, [], ◌∷◌, map, Bool, true, false, cond, ◌↔◌, get_or}
-use Rattle.std.proofs.Math.Option.{Option, none, some}
+use Rattle.std.specs.Prelude.{ℕ, ◌<◌, ◌≡◌, List, [], ◌∷◌, map, Bool, true, false, cond, ◌↔◌, get_or, Option, None, Some}
 use Rattle.base_refusal.specs.declared.Refusal.{Refusal}
 use Rattle.base_refusal.specs.Refusals.{refusal}
 
@@ -14,8 +13,8 @@ row n card column test = record { test = test; gives = refusal n card column }
 
 -- the refusal of the first row whose test holds
 unfoldable pub given : List Row → Option Refusal
-given [] = none
-given (r ∷ rows) = cond r.test (some r.gives) (given rows)
+given [] = None
+given (r ∷ rows) = cond r.test (Some r.gives) (given rows)
 
 -- the row in a place, counted from 0; behind the last one a row that never holds
 unfoldable pub row_at : List Row → ℕ → Row

@@ -1,6 +1,5 @@
 -- The rows of each operation on one card, in the paper's order: number, card, column, and when.
-use Rattle.std.specs.Prelude.{ℕ, zero, suc, ◌+◌, List, [], ◌∷◌, ◌++◌, cond, ◌&&◌, not, length, take, eqb, ltb}
-use Rattle.std.proofs.Math.Option.{Option, none, some}
+use Rattle.std.specs.Prelude.{ℕ, zero, suc, ◌+◌, List, [], ◌∷◌, ◌++◌, cond, ◌&&◌, not, length, take, eqb, ltb, Option, None, Some, Result, Ok, Err, ⊤}
 use Rattle.value_text.specs.text.Texts.{printable, well_formed}
 use Rattle.base_value.specs.declared.Value.{Value}
 use Rattle.format_layout.specs.declared.Field.{Field}
@@ -8,22 +7,16 @@ use Rattle.format_layout.specs.declared.Form.{Form}
 use Rattle.format_layout.specs.Forms.{is_open, form_numbered}
 use Rattle.format_code.specs.Codes.{code_of}
 use Rattle.base_refusal.specs.declared.Refusal.{Refusal}
-use Rattle.card_field.specs.declared.FieldRead.{FieldRead}
-use Rattle.card_field.specs.declared.FieldRead.TheVariants as read
 use Rattle.base_refusal.specs.Refusals.{refusal}
 use Rattle.value_text.specs.printable.Bytes.{first_bad}
 use Rattle.card_field.specs.needing.Needs.{columns_of, is_blank}
-use Rattle.card_put.specs.declared.Entered.{Entered}
-use Rattle.card_put.specs.declared.Entered.TheVariants as entered
 use Rattle.card_put.specs.Putting.{is_absent}
 use Rattle.format_layout.specs.Columns.{width}
 use Rattle.card_check.specs.Judging.{is_coordinate, filled_at}
-use Rattle.card_put.specs.declared.opening.Opened.{Opened}
-use Rattle.card_put.specs.declared.opening.Opened.TheVariants as opened
-use Rattle.card_check.specs.declared.Verdict.{Verdict}
-use Rattle.card_check.specs.declared.Verdict.TheVariants as verdict
 use Rattle.card_laws.specs.exactly.Rows.{Row, row}
 use Rattle.card_laws.specs.exactly.Words.{is_unknown, fields_on, counts, field_at, is_needed, reading_in, is_malformed, is_outside, reads_outside, takes, columns_for, blanked_in, takes_text, is_comment, label_differs, is_gap}
+use Rattle.card_field.specs.declared.FieldRead.{FieldRead}
+use Rattle.card_check.specs.declared.Offence.{Offence}
 
 -- on the way to the field with a number: the card's length, bytes and code, the number, the form
 unfoldable pub way_rows : List ℕ → ℕ → ℕ → List Row
@@ -107,23 +100,23 @@ judge_rows s form =
     columns_from form s 75 6
 
 -- the refusal in each operation's answer
-abbrev pub in_reading : FieldRead → Option Refusal
-in_reading (read.Is v misplaced) = none
-in_reading (read.Refused r) = some r
+abbrev pub in_reading : Result FieldRead Refusal → Option Refusal
+in_reading (Ok f) = None
+in_reading (Err r) = Some r
 
-abbrev pub in_entry : Entered → Option Refusal
-in_entry entered.Done = none
-in_entry (entered.Refused r) = some r
+abbrev pub in_entry : Result ⊤ Refusal → Option Refusal
+in_entry (Ok _) = None
+in_entry (Err r) = Some r
 
-abbrev pub in_opening : Opened → Option Refusal
-in_opening opened.Done = none
-in_opening (opened.Refused r) = some r
+abbrev pub in_opening : Result ⊤ Refusal → Option Refusal
+in_opening (Ok _) = None
+in_opening (Err r) = Some r
 
 -- a verdict names no card: it is the one card, and none for the length
 abbrev pub card_of : ℕ → ℕ
 card_of zero = 0
 card_of (suc c) = 1
 
-abbrev pub in_verdict : Verdict → Option Refusal
-in_verdict verdict.Fine = none
-in_verdict (verdict.Offence n c) = some (refusal n (card_of c) c)
+abbrev pub in_verdict : Result ⊤ Offence → Option Refusal
+in_verdict (Ok _) = None
+in_verdict (Err o) = Some (refusal o.number (card_of o.column) o.column)

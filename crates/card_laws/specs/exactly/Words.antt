@@ -1,5 +1,5 @@
 -- The words in which the rows are written: each says one thing of a card, a field, a value or a text.
-use Rattle.std.specs.Prelude.{ℕ, ◌+◌, ◌-◌, max, List, [], ◌∷◌, Bool, true, false, cond, ◌&&◌, ◌||◌, not, length, get_or, take, drop, replicate, leb, ltb, nat_abs}
+use Rattle.std.specs.Prelude.{ℕ, ◌+◌, ◌-◌, max, List, [], ◌∷◌, Bool, true, false, cond, ◌&&◌, ◌||◌, not, length, get_or, take, drop, replicate, leb, ltb, nat_abs, Result, Ok, Err}
 use Rattle.base_lists.specs.Parts.{alike}
 use Rattle.base_digits.specs.digits.Digits.{size}
 use Rattle.base_value.specs.declared.Decimal.{Decimal as Units}
@@ -11,8 +11,7 @@ use Rattle.value_coordinate.specs.declared.axes.Axis.TheVariants.{Y, X}
 use Rattle.value_coordinate.specs.axes.Axes.{bound_of}
 use Rattle.base_value.specs.declared.Value.{Value}
 use Rattle.base_value.specs.declared.Value.TheVariants.{Absent, Whole, Decimal, Angle, Date, Text}
-use Rattle.base_value.specs.declared.Reading.{Reading}
-use Rattle.base_value.specs.declared.Reading.TheVariants.{Held, Malformed, OutOfRange}
+use Rattle.base_value.specs.declared.Unread.TheVariants.{Malformed, OutOfRange}
 use Rattle.value_field.specs.spelling.Reading.{reading_of}
 use Rattle.format_code.specs.declared.Code.{Code}
 use Rattle.format_code.specs.declared.Code.TheVariants.{Read, Passed, Unknown}
@@ -28,6 +27,7 @@ use Rattle.card_field.specs.judging.Fields.{spelling_of}
 use Rattle.card_field.specs.needing.Needs.{columns_of, any_second}
 use Rattle.card_put.specs.Putting.{is_absent, within, placed_in}
 use Rattle.format_layout.specs.Columns.{width}
+use Rattle.base_value.specs.declared.Unread.{Unread}
 
 abbrev pub is_unknown : Code → Bool
 is_unknown (Read k) = false
@@ -57,13 +57,13 @@ unfoldable pub is_needed : List ℕ → Field → Bool
 is_needed s f = f.needed && (not f.second || any_second s (fields_on s))
 
 -- what stands in a field, in a form
-unfoldable pub reading_in : List ℕ → Form → Field → Reading
+unfoldable pub reading_in : List ℕ → Form → Field → Result Value Unread
 reading_in s form f = reading_of (spelling_of f.kind form) (columns_of f s)
 
-abbrev pub is_malformed : Reading → Bool
-is_malformed (Held v) = false
-is_malformed Malformed = true
-is_malformed OutOfRange = false
+abbrev pub is_malformed : Result Value Unread → Bool
+is_malformed (Ok v) = false
+is_malformed (Err Malformed) = true
+is_malformed (Err OutOfRange) = false
 
 -- latitudes and longitudes; no other field takes an angle
 abbrev pub axis_of : Kind → Axis
@@ -85,10 +85,10 @@ is_outside f (Date d) = not (is_date d)
 is_outside f (Text c) = false
 
 -- a reading that is well formed and outside its range: by itself, or a whole number by its field
-abbrev pub reads_outside : Field → Reading → Bool
-reads_outside f Malformed = false
-reads_outside f OutOfRange = true
-reads_outside f (Held v) = not (within f v)
+abbrev pub reads_outside : Field → Result Value Unread → Bool
+reads_outside f (Err Malformed) = false
+reads_outside f (Err OutOfRange) = true
+reads_outside f (Ok v) = not (within f v)
 
 -- what each field takes as a value: its own kind, and absence; a text goes in as bytes
 abbrev pub is_whole : Value → Bool

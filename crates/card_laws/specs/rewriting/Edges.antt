@@ -1,17 +1,17 @@
 -- The values at the edge: what some columns say, and what stands there once that is rewritten.
-use Rattle.std.specs.Prelude.{ℕ, Bool, cond, List, [], ◌∷◌, ℤ, pos, negsuc}
+use Rattle.std.specs.Prelude.{ℕ, Bool, cond, List, [], ◌∷◌, ℤ, pos, negsuc, Result, Ok, Err}
 use Prim.Native.Char.{code}
 use Prim.Native.String.{String, [] as ε, ◌∷◌ as ◌▸◌}
 use Rattle.base_digits.specs.digits.Columns.{entered_in}
 use Rattle.base_value.specs.declared.Value.{Value}
 use Rattle.base_value.specs.declared.Value.TheVariants as value
-use Rattle.base_value.specs.declared.Reading.{Reading}
-use Rattle.base_value.specs.declared.Reading.TheVariants.{Held, Malformed, OutOfRange}
+use Rattle.base_value.specs.declared.Unread.TheVariants.{Malformed, OutOfRange}
 use Rattle.base_value.specs.Reading.{refusal_of}
 use Rattle.value_field.specs.declared.spelling.Spelling.{Spelling}
 use Rattle.value_field.specs.declared.spelling.Spelling.TheVariants.{Decimal, Date, Latitude, Longitude}
 use Rattle.value_field.specs.spelling.Reading.{reading_of, misplaced_in}
 use Rattle.value_field.specs.writing.Writing.{rewritten_of}
+use Rattle.base_value.specs.declared.Unread.{Unread}
 
 abbrev pub bytes : String → List ℕ
 bytes ε = []
@@ -23,10 +23,10 @@ pub data Said : Type 0 where
   misplaces : Value → Said
   refuses : ℕ → Said
 
-abbrev pub said_by : Bool → Reading → Said
-said_by misplaced (Held v) = cond misplaced (misplaces v) (says v)
-said_by misplaced Malformed = refuses (refusal_of Malformed)
-said_by misplaced OutOfRange = refuses (refusal_of OutOfRange)
+abbrev pub said_by : Bool → Result Value Unread → Said
+said_by misplaced (Ok v) = cond misplaced (misplaces v) (says v)
+said_by misplaced (Err Malformed) = refuses (refusal_of (Err Malformed))
+said_by misplaced (Err OutOfRange) = refuses (refusal_of (Err OutOfRange))
 
 -- a spelling, the columns, what they say, and the columns rewritten: as they were where they say nothing
 pub record Case : Type 0 where

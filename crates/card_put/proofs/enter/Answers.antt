@@ -3,19 +3,19 @@ use mathlib.Core.Path.{sym, ap, ap₂, ◌∙◌}
 use mathlib.Core.Bool.{◌&&◌}
 use Rattle.format_layout.specs.packed.Rows.{unpack}
 use Rattle.base_refusal.specs.Refusals.{refusal}
-use Rattle.card_put.specs.declared.Entered.TheVariants.{Refused}
 use Rattle.card_put.proofs.Steps.{put_outside, put_missing, put_entered, same_putting, stayed}
 use Rattle.card_put.proofs.enter.Goals as goal
+use Rattle.std.specs.Prelude.{Err}
 
 pub returns-then-not-is_within : goal.returns-then-not-is_within
 returns-then-not-is_within c =
     let a = c.args in
-    record { answer = (stayed c.args.card.now _ (put_outside _ a.card.now _ (unpack a.row) _ _ c.requires.4 (sym c.is_within.ensures ∙ c.if-not-is_within.true)) (ap Refused c.refuse.ensures)).0; card = (stayed c.args.card.now _ (put_outside _ a.card.now _ (unpack a.row) _ _ c.requires.4 (sym c.is_within.ensures ∙ c.if-not-is_within.true)) (ap Refused c.refuse.ensures)).1 }
+    record { answer = (stayed c.args.card.now _ (put_outside _ a.card.now _ (unpack a.row) _ _ c.requires.4 (sym c.is_within.ensures ∙ c.if-not-is_within.true)) (ap Err c.refuse.ensures)).0; card = (stayed c.args.card.now _ (put_outside _ a.card.now _ (unpack a.row) _ _ c.requires.4 (sym c.is_within.ensures ∙ c.if-not-is_within.true)) (ap Err c.refuse.ensures)).1 }
 
 pub returns-then-is_absent-needed_after : goal.returns-then-is_absent-needed_after
 returns-then-is_absent-needed_after c =
     let a = c.args in
-    record { answer = (stayed c.args.card.now _ (put_missing _ a.card.now _ (unpack a.row) _ _ (ap₂ ◌&&◌ (sym c.is_absent.ensures) (sym c.needed_after.ensures) ∙ c.if-is_absent-needed_after.true)) (ap Refused c.refuse-then-is_absent-needed_after.ensures ∙ ap (λ k. Refused (refusal 11 1 k)) c.first_of.ensures)).0; card = (stayed c.args.card.now _ (put_missing _ a.card.now _ (unpack a.row) _ _ (ap₂ ◌&&◌ (sym c.is_absent.ensures) (sym c.needed_after.ensures) ∙ c.if-is_absent-needed_after.true)) (ap Refused c.refuse-then-is_absent-needed_after.ensures ∙ ap (λ k. Refused (refusal 11 1 k)) c.first_of.ensures)).1 }
+    record { answer = (stayed c.args.card.now _ (put_missing _ a.card.now _ (unpack a.row) _ _ (ap₂ ◌&&◌ (sym c.is_absent.ensures) (sym c.needed_after.ensures) ∙ c.if-is_absent-needed_after.true)) (ap Err c.refuse-then-is_absent-needed_after.ensures ∙ ap (λ k. Err (refusal 11 1 k)) c.first_of.ensures)).0; card = (stayed c.args.card.now _ (put_missing _ a.card.now _ (unpack a.row) _ _ (ap₂ ◌&&◌ (sym c.is_absent.ensures) (sym c.needed_after.ensures) ∙ c.if-is_absent-needed_after.true)) (ap Err c.refuse-then-is_absent-needed_after.ensures ∙ ap (λ k. Err (refusal 11 1 k)) c.first_of.ensures)).1 }
 
 pub returns : goal.returns
 returns c =

@@ -16,8 +16,8 @@ use Rattle.format_code.specs.declared.Code.TheVariants as code
 use Rattle.format_code.specs.Codes.{code_of}
 use Rattle.format_code.proofs.Walk.{wrong_length}
 use Rattle.base_refusal.specs.Refusals.{refusal}
-use Rattle.card_put.specs.declared.opening.Opened.TheVariants.{Refused}
 use Rattle.card_put.specs.opening.Opening.{labelled, new_card, code_answer, opened_of, card_with, opened_card}
+use Rattle.std.specs.Prelude.{Err}
 
 zero_one : ◌≡◌ {A = ℕ} 0 1 → ⊥
 zero_one h = omega arith
@@ -64,11 +64,11 @@ no_label-behind n = rw (sub-zero n)
 
 -- the answer and the card, by the card's length and the code
 module _ (t s : List ℕ) where
-  pub open_none : length s ≡ 0 → opened_of t (length s) ≡ Refused (refusal 1 0 0)
+  pub open_none : length s ≡ 0 → opened_of t (length s) ≡ Err (refusal 1 0 0)
   unfolding opened_of
   open_none h = rw h
 
-  pub open_odd : (length s ≡ 0 → ⊥) → (length s ≡ 80 → ⊥) → opened_of t (length s) ≡ Refused (refusal 2 0 0)
+  pub open_odd : (length s ≡ 0 → ⊥) → (length s ≡ 80 → ⊥) → opened_of t (length s) ≡ Err (refusal 2 0 0)
   unfolding opened_of
   open_odd g h = rw (ne_eqb (length s) 0 g, ne_eqb (length s) 80 h)
 

@@ -1,22 +1,29 @@
 -- `card_put::put_text` meets its contract.
 use native.Mathlib.Omega.{arith}
-use mathlib.Core.Path.{refl}
+use mathlib.Core.Path.{refl, ap, ◌∙◌}
+use Rattle.std.specs.Prelude.{Err}
+use Rattle.std.proofs.lemmas.Result.{err_from_is_err_and}
 use Rattle.card_field.proofs.seeking.Steps.{way_at, way_refused}
 use Rattle.card_put.proofs.Steps.{text-is, text-stays, field_fits, same_putting, stayed}
 use Rattle.card_put.proofs.put_text.Goals as goal
 
+pub returns-in_err-found : goal.returns-in_err-found
+returns-in_err-found c =
+    let s = c.args.card.now in
+    let p = err_from_is_err_and c.from_residual.result c.from_residual.ensures.1 in
+    let q = stayed s _ (text-stays s _ _ _ (way_refused s _ _ _ c.in_err-found.ensures _ refl) _) (p.1 ∙ ap Err p.2) in
+    record { answer = q.0; card = q.1 }
+
 pub write_text-requires : goal.write_text-requires
 write_text-requires c =
     let s = c.args.card.now in
-    let h = field_fits s _ _ _ _ (way_at s _ _ _ c.seek-way.ensures _ _ c.in-At.is) in
+    let h = field_fits s _ _ _ _ (way_at s _ _ _ c.in_ok-found.ensures _ _ refl) in
     (h.1, h.2, omega (arith, h.0, h.3))
 
-pub returns-in-Refused : goal.returns-in-Refused
-returns-in-Refused c =
+pub returns : goal.returns
+returns c =
     let s = c.args.card.now in
-    record { answer = (stayed c.args.card.now _ (text-stays s _ _ _ (way_refused s _ _ _ c.seek-way.ensures _ c.in-Refused.is) _) refl).0; card = (stayed c.args.card.now _ (text-stays s _ _ _ (way_refused s _ _ _ c.seek-way.ensures _ c.in-Refused.is) _) refl).1 }
-
-pub returns-in-At : goal.returns-in-At
-returns-in-At c =
-    let s = c.args.card.now in
-    record { answer = (same_putting s c.write_text.new.card _ (text-is s _ _ _ _ (way_at s _ _ _ c.seek-way.ensures _ _ c.in-At.is) _ c.form_numbered.ensures _) c.write_text.ensures.answer c.write_text.ensures.card).0; card = (same_putting s c.write_text.new.card _ (text-is s _ _ _ _ (way_at s _ _ _ c.seek-way.ensures _ _ c.in-At.is) _ c.form_numbered.ensures _) c.write_text.ensures.answer c.write_text.ensures.card).1 }
+    let w = c.write_text in
+    let is = text-is s _ _ _ _ (way_at s _ _ _ c.in_ok-found.ensures _ _ refl) _ c.form_numbered.ensures _ in
+    let q = same_putting s w.new.card _ is w.ensures.answer w.ensures.card in
+    record { answer = q.0; card = q.1 }

@@ -1,12 +1,11 @@
 -- What opening a card answers, and what the card then holds.
-use Rattle.std.specs.Prelude.{ℕ, ◌-◌, List, [], ◌++◌, cond, not, length, replicate, eqb}
+use Rattle.std.specs.Prelude.{ℕ, ◌-◌, List, [], ◌++◌, cond, not, length, replicate, eqb, Result, Err, ⊤}
 use Rattle.format_code.specs.declared.Code.{Code}
 use Rattle.format_code.specs.declared.Code.TheVariants as code
 use Rattle.format_code.specs.Codes.{code_of}
 use Rattle.format_layout.specs.Layouts.{label_of}
-use Rattle.base_refusal.specs.Refusals.{refusal}
-use Rattle.card_put.specs.declared.opening.Opened.{Opened}
-use Rattle.card_put.specs.declared.opening.Opened.TheVariants.{Done, Refused}
+use Rattle.base_refusal.specs.Refusals.{refusal, no_refusal}
+use Rattle.base_refusal.specs.declared.Refusal.{Refusal}
 
 -- a label and then blanks, in so many columns
 unfoldable pub labelled : List ℕ → ℕ → List ℕ
@@ -16,16 +15,16 @@ labelled label width = label ++ replicate (width - length label) 32
 unfoldable pub new_card : List ℕ → List ℕ → List ℕ
 new_card text label = text ++ labelled label 75
 
-unfoldable pub code_answer : Code → Opened
-code_answer code.Unknown = Refused (refusal 5 1 1)
-code_answer code.Passed = Done
-code_answer (code.Read k) = Done
+unfoldable pub code_answer : Code → Result ⊤ Refusal
+code_answer code.Unknown = Err (refusal 5 1 1)
+code_answer code.Passed = no_refusal
+code_answer (code.Read k) = no_refusal
 
 -- the answer for a code and a card of so many bytes, in the order 1, 2, 5
-unfoldable pub opened_of : List ℕ → ℕ → Opened
+unfoldable pub opened_of : List ℕ → ℕ → Result ⊤ Refusal
 opened_of text size =
-    cond (eqb size 0) (Refused (refusal 1 0 0))
-    (cond (not (eqb size 80)) (Refused (refusal 2 0 0)) (code_answer (code_of text)))
+    cond (eqb size 0) (Err (refusal 1 0 0))
+    (cond (not (eqb size 80)) (Err (refusal 2 0 0)) (code_answer (code_of text)))
 
 -- a card that was s, opened with a code: a new card, or what it was
 unfoldable pub card_with : Code → List ℕ → List ℕ → List ℕ

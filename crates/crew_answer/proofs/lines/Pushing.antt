@@ -1,13 +1,12 @@
 -- What stores one after the other leave in a buffer, in room or past its end.
 use Prim.Native.Nat.{ℕ, suc, ◌+◌, ◌*◌, ◌/◌, ◌≤◌, ◌<◌, min}
 use native.Mathlib.Nat.{add-zero, zero-add}
-use native.Mathlib.Numerals.{add-one}
 use native.Mathlib.Decide.{dec_le}
 use native.Mathlib.Omega.{arith}
 use mathlib.Core.Path.{◌≡◌, refl, sym, ap, ◌∙◌}
 use mathlib.Core.List.{List, [], ◌∷◌, ◌++◌}
-use lib.ListN.{length, get_or, take, drop, set, drop_of_length-le, length-append}
-use lib.Seq.{take_all, take-length, drop-length, sets, drop-cons, drop-nil, take_at, length-take-le, length_front}
+use lib.ListN.{length, take, drop, set, drop_of_length-le, length-append}
+use lib.Seq.{take_all, take-length, drop-length, sets, drop-nil, take_at, length-take-le, length_front}
 use Rattle.base_digits.specs.digits.Digits.{digits, size}
 use Rattle.base_digits.proofs.digits.Spell.{digits-length}
 use Rattle.base_digits.proofs.digits.Numbers.{size_le}
@@ -45,16 +44,6 @@ laid-text l vs =
           let m : min (length vs) (length l) ≡ length l = omega arith in
           rw (m, drop-length l, drop_of_length-le l {i = length vs} (omega arith))
     ])
-
--- one byte of a text that is put byte by byte
-pub put_more : (out s : List ℕ) (end i : ℕ) → i < length s
-    → sets out end (drop i s) ≡ sets (set out end (get_or s i 0)) (end + 1) (drop (i + 1) s)
-put_more out s end i h =
-    rw (drop-cons s i 0 h, add-one i, add-one end)
-
--- and none left
-pub put_all : (out s : List ℕ) (end i : ℕ) → length s ≤ i → sets out end (drop i s) ≡ out
-put_all out s end i h = rw (drop_of_length-le s h)
 
 -- a text was put from a place on, and the next place is the one behind it
 pub record Put (old : List ℕ) (at : ℕ) (w new : List ℕ) (next : ℕ) : Type 0 where

@@ -1,13 +1,11 @@
 -- How the code holds the table: a code's bytes as one number, and a field as one whose hexadecimal digits are its parts. No
 -- promise to a caller cites this.
-use Rattle.std.specs.Prelude.{ℕ, ◌+◌, ◌-◌, ◌*◌, ◌/◌, ◌%◌, Bool, true, false, cond, List, ◌∷◌, ◌++◌, map, eqb, length, get_or, replicate}
+use Rattle.std.specs.Prelude.{ℕ, ◌+◌, ◌-◌, ◌*◌, ◌/◌, ◌%◌, Bool, true, false, cond, List, ◌∷◌, ◌++◌, map, eqb, length, get_or, replicate, Option, Some, None}
 use Rattle.format_layout.specs.declared.Kind.{Kind}
 use Rattle.format_layout.specs.declared.Kind.TheVariants.{Text, Comment, Whole, Decimal, Date, Latitude, Longitude}
 use Rattle.format_layout.specs.declared.Range.{Range}
 use Rattle.format_layout.specs.declared.Range.TheVariants.{Any, AtLeast, Between, OneOf}
 use Rattle.format_layout.specs.declared.Field.{Field}
-use Rattle.format_layout.specs.declared.Found.{Found}
-use Rattle.format_layout.specs.declared.Found.TheVariants.{Is, Nothing}
 use Rattle.format_layout.specs.Table.{read_table}
 use Rattle.format_layout.specs.Layouts.{layout_at, fields_of, label_of}
 
@@ -80,8 +78,8 @@ unfoldable pub row_of : ℕ → ℕ → ℕ
 row_of k n = get_or (word_of (layout_at k).code ∷ map pack (fields_of k)) n 0
 
 -- the answer that a field's number holds
-unfoldable pub found_in : ℕ → Found
-found_in r = cond (eqb r 0) Nothing (Is (unpack r))
+unfoldable pub found_in : ℕ → Option Field
+found_in r = cond (eqb r 0) None (Some (unpack r))
 
 -- a label and the blanks behind it, in as many columns as the longest has
 unfoldable pub label_row : ℕ → List ℕ

@@ -1,115 +1,85 @@
 -- `header_check::check_cards` meets its contract.
-use Prim.Native.Nat.{◌+◌, ◌*◌, ◌-◌, ◌/◌, ◌≤◌}
+use Prim.Native.Nat.{◌+◌}
 use mathlib.Core.Path.{◌≡◌, refl, sym, ap, ap₂, ◌∙◌}
 use mathlib.Core.Bool.{◌&&◌}
-use lib.ListN.{length, take, drop}
+use lib.ListN.{length, get_or}
 use native.Mathlib.Omega.{arith}
+use Rattle.std.proofs.lemmas.List.{length_push}
 use Rattle.card_screen.specs.Roles.{sure}
 use Rattle.base_lists.proofs.Finding.{begins}
 use Rattle.header_check.specs.forms.Cards.{cards_in, layout_of}
-use Rattle.header_check.proofs.forms.Steps.{card_part, card_ends, card_whole}
-use Rattle.header_check.specs.Opening.{number_before}
-use Rattle.header_check.specs.Refusing.{verdict_at}
+use Rattle.header_check.specs.packed.Noted.{layout_in, is_sure}
+use Rattle.header_check.proofs.forms.Reading.{card_comes, cards_end}
+use Rattle.header_check.specs.Opening.{number_before, goes_on}
+use Rattle.header_check.specs.Refusing.{verdict_at, answer_for}
 use Rattle.header_check.proofs.Block.{open_to, none_open, none-line}
 use Rattle.header_check.proofs.Walked.{vessel_byte, found, next_open, next-before, next-line, goes_on_lem, ends_at, ends_past}
 use Rattle.header_check.proofs.check_cards.Goals as goal
 
 pub loop-place-init : goal.loop-place-init
 unfolding number_before
-loop-place-init c = (omega arith, none_open _, refl, none-line _, begins _ _)
-
-pub overflow_mul-from : goal.overflow_mul-from
-overflow_mul-from c =
-    let within : c.loop-place.place * 80 + 80 ≤ length c.args.header.now = (card_ends c.args.header.now c.loop-place.place c.loop-place-test.true) in
-    omega (arith, within)
-
-pub overflow_add-card : goal.overflow_add-card
-overflow_add-card c =
-    let within : c.loop-place.place * 80 + 80 ≤ length c.args.header.now = (card_ends c.args.header.now c.loop-place.place c.loop-place-test.true) in
-    omega (arith, within)
-
-pub slice_bounds-card-count : goal.slice_bounds-card-count
-slice_bounds-card-count c =
-    let within : c.loop-place.place * 80 + 80 ≤ length c.args.header.now = (card_ends c.args.header.now c.loop-place.place c.loop-place-test.true) in
-    omega (arith, within)
-
-pub slice_bounds-card-start : goal.slice_bounds-card-start
-slice_bounds-card-start c =
-    let within : c.loop-place.place * 80 + 80 ≤ length c.args.header.now = (card_ends c.args.header.now c.loop-place.place c.loop-place-test.true) in
-    omega (arith, within)
-
-pub slice_bounds-card-end : goal.slice_bounds-card-end
-slice_bounds-card-end c =
-    let within : c.loop-place.place * 80 + 80 ≤ length c.args.header.now = (card_ends c.args.header.now c.loop-place.place c.loop-place-test.true) in
-    omega (arith, within)
+loop-place-init c = (none_open _, refl, none-line _, begins _ _)
 
 -- a note is there for the card
 pub bounds-cards-place : goal.bounds-cards-place
-unfolding cards_in
-bounds-cards-place c = omega (arith, c.loop-place-test.true, c.requires.header_bound, c.requires.noted.room)
+bounds-cards-place c =
+    let t = card_comes c.into_iter-place-iterator.result c.args.header.now (cc) (cc) (cc) c.loop-place.yielded _ c.loop-place.yielded_by _ _ c.next.ensures.steps (c.in-Some.place, c.in-Some.card) c.in-Some.is in
+    omega (arith, t.inside, t.place_is, c.requires.header_bound, c.requires.noted.room)
 
 pub judge_placed-verdict-requires : goal.judge_placed-verdict-requires
-unfolding cards_in
 judge_placed-verdict-requires c =
-    let layout_is : c.layout_in-layout.result ≡ layout_of (take (c.loop-place.place * 80 + 80 - c.loop-place.place * 80) (drop (c.loop-place.place * 80) c.args.header.now)) = (let b = c.loop-place in
-    c.layout_in-layout.ensures ∙ c.requires.noted.layouts_are b.place c.loop-place-test.true
-    ∙ ap layout_of (sym (card_part c.args.header.now b.place))) in
-    let b = c.loop-place in
     let h = c.args.header.now in
-    let e = card_part h b.place in (
-      card_whole h b.place c.loop-place-test.true,
+    let b = c.loop-place in
+    let n = length b.yielded in
+    let t = card_comes c.into_iter-place-iterator.result c.args.header.now (cc) (cc) (cc) c.loop-place.yielded _ c.loop-place.yielded_by _ _ c.next.ensures.steps (c.in-Some.place, c.in-Some.card) c.in-Some.is in
+    let layout_is : c.layout_in-layout.result ≡ layout_of c.in-Some.card.now =
+    c.layout_in-layout.ensures ∙ ap (λ i. layout_in (get_or c.args.cards.now i 0)) t.place_is ∙ c.requires.noted.layouts_are n t.inside ∙ ap layout_of (sym t.card_is) in (
+      t.whole,
       layout_is,
-      c.is_sure.ensures ∙ c.requires.noted.sures_are b.place c.loop-place-test.true ∙ ap₂ sure (sym (layout_is ∙ ap layout_of e)) (sym e),
+      c.is_sure.ensures ∙ ap (λ i. is_sure (get_or c.args.cards.now i 0)) t.place_is ∙ c.requires.noted.sures_are n t.inside
+          ∙ ap₂ sure (sym (layout_is ∙ ap layout_of t.card_is)) (sym t.card_is),
     )
 
 pub returns-in_default : goal.returns-in_default
-unfolding cards_in
 returns-in_default c =
-    let layout_is : c.layout_in-layout.result ≡ layout_of (take (c.loop-place.place * 80 + 80 - c.loop-place.place * 80) (drop (c.loop-place.place * 80) c.args.header.now)) = (let b = c.loop-place in
-    c.layout_in-layout.ensures ∙ c.requires.noted.layouts_are b.place c.loop-place-test.true
-    ∙ ap layout_of (sym (card_part c.args.header.now b.place))) in
-    let inside_is : c.loop-place.inside && c.goes_on-inside.result ≡ open_to c.args.header.now (c.loop-place.place + 1) = (let b = c.loop-place in
     let h = c.args.header.now in
-    next_open h _ b.place _ _ _ _ _ (card_part h b.place) c.loop-place-test.true (layout_is) c.code_number-number.ensures
-    b.invariant.2 b.invariant.1 c.goes_on-inside.ensures) in
-    let verdict-is : c.judge_placed-verdict.result ≡ verdict_at c.args.header.now c.loop-place.place = (let b = c.loop-place in
-    let h = c.args.header.now in
-    found h c.args.notes.now _ b.place _ _ _ _ _ _ c.requires.notes_value (card_part h b.place)
-    c.loop-place-test.true (vessel_byte h (λ i. omega (arith, c.shared_slice_known-1.given i)) b.place)
-    (layout_is) c.form_by-form.ensures.form (inside_is) b.invariant.3 refl c.judge_placed-verdict.ensures) in
     let b = c.loop-place in
-    ends_at c.args.header.now b.place c.loop-place-test.true b.invariant.4
-    c.judge_placed-verdict.result (verdict-is) _ _ c.in_default.is _ c.answer_for.ensures
+    let n = length b.yielded in
+    let t = card_comes c.into_iter-place-iterator.result c.args.header.now (cc) (cc) (cc) c.loop-place.yielded _ c.loop-place.yielded_by _ _ c.next.ensures.steps (c.in-Some.place, c.in-Some.card) c.in-Some.is in
+    let layout_is : c.layout_in-layout.result ≡ layout_of c.in-Some.card.now =
+    c.layout_in-layout.ensures ∙ ap (λ i. layout_in (get_or c.args.cards.now i 0)) t.place_is ∙ c.requires.noted.layouts_are n t.inside ∙ ap layout_of (sym t.card_is) in
+    let inside_is : b.inside && c.goes_on-inside.result ≡ open_to h (n + 1) =
+    next_open h _ n _ _ _ _ _ t.card_is t.inside layout_is c.code_number-number.ensures b.invariant.1 b.invariant.0
+    (c.goes_on-inside.ensures ∙ ap (λ i. goes_on i c.layout_in-layout.result b.before c.code_number-number.result) t.place_is) in
+    let verdict-is : c.judge_placed-verdict.result ≡ verdict_at h n =
+    found h c.args.notes.now _ n _ _ _ _ _ _ c.requires.notes_value t.card_is t.inside (vessel_byte h (λ i. omega (arith, c.shared_slice_known-1.given i)) n)
+    layout_is c.form_by-form.ensures.form inside_is b.invariant.2 refl c.judge_placed-verdict.ensures in
+    ends_at h n t.inside b.invariant.3 c.judge_placed-verdict.result verdict-is _ _ c.in_default.is _ (c.answer_for.ensures ∙ ap (λ i. answer_for c.judge_placed-verdict.result (i + 1)) t.place_is)
 
 pub loop-place-preserved : goal.loop-place-preserved
-unfolding cards_in
 loop-place-preserved c =
-    let layout_is : c.layout_in-layout.result ≡ layout_of (take (c.loop-place.place * 80 + 80 - c.loop-place.place * 80) (drop (c.loop-place.place * 80) c.args.header.now)) = (let b = c.loop-place in
-    c.layout_in-layout.ensures ∙ c.requires.noted.layouts_are b.place c.loop-place-test.true
-    ∙ ap layout_of (sym (card_part c.args.header.now b.place))) in
-    let inside_is : c.loop-place.inside && c.goes_on-inside.result ≡ open_to c.args.header.now (c.loop-place.place + 1) = (let b = c.loop-place in
     let h = c.args.header.now in
-    next_open h _ b.place _ _ _ _ _ (card_part h b.place) c.loop-place-test.true (layout_is) c.code_number-number.ensures
-    b.invariant.2 b.invariant.1 c.goes_on-inside.ensures) in
-    let verdict-is : c.judge_placed-verdict.result ≡ verdict_at c.args.header.now c.loop-place.place = (let b = c.loop-place in
-    let h = c.args.header.now in
-    found h c.args.notes.now _ b.place _ _ _ _ _ _ c.requires.notes_value (card_part h b.place)
-    c.loop-place-test.true (vessel_byte h (λ i. omega (arith, c.shared_slice_known-1.given i)) b.place)
-    (layout_is) c.form_by-form.ensures.form (inside_is) b.invariant.3 refl c.judge_placed-verdict.ensures) in
     let b = c.loop-place in
-    let h = c.args.header.now in (
-      omega arith,
+    let n = length b.yielded in
+    let t = card_comes c.into_iter-place-iterator.result c.args.header.now (cc) (cc) (cc) c.loop-place.yielded _ c.loop-place.yielded_by _ _ c.next.ensures.steps (c.in-Some.place, c.in-Some.card) c.in-Some.is in
+    let layout_is : c.layout_in-layout.result ≡ layout_of c.in-Some.card.now =
+    c.layout_in-layout.ensures ∙ ap (λ i. layout_in (get_or c.args.cards.now i 0)) t.place_is ∙ c.requires.noted.layouts_are n t.inside ∙ ap layout_of (sym t.card_is) in
+    let inside_is : b.inside && c.goes_on-inside.result ≡ open_to h (n + 1) =
+    next_open h _ n _ _ _ _ _ t.card_is t.inside layout_is c.code_number-number.ensures b.invariant.1 b.invariant.0
+    (c.goes_on-inside.ensures ∙ ap (λ i. goes_on i c.layout_in-layout.result b.before c.code_number-number.result) t.place_is) in
+    let verdict-is : c.judge_placed-verdict.result ≡ verdict_at h n =
+    found h c.args.notes.now _ n _ _ _ _ _ _ c.requires.notes_value t.card_is t.inside (vessel_byte h (λ i. omega (arith, c.shared_slice_known-1.given i)) n)
+    layout_is c.form_by-form.ensures.form inside_is b.invariant.2 refl c.judge_placed-verdict.ensures in
+    rw (length_push b.yielded (c.in-Some.place, c.in-Some.card)) (
       inside_is,
-      next-before h _ b.place _ (card_part h b.place) c.code_number-number.ensures,
-      next-line h _ b.place _ _ _ (card_part h b.place) (layout_is) (inside_is) b.invariant.3,
-      goes_on_lem h b.place c.loop-place-test.true b.invariant.4 c.judge_placed-verdict.result (verdict-is)
-          c.in-Fine.is,
+      next-before h _ n _ t.card_is c.code_number-number.ensures,
+      next-line h _ n _ _ _ t.card_is layout_is inside_is b.invariant.2,
+      goes_on_lem h n t.inside b.invariant.3 c.judge_placed-verdict.result verdict-is c.in-Ok.is,
     )
 
 pub returns : goal.returns
 unfolding cards_in
 returns c =
-    let h = c.args.header.now in
     let b = c.loop-place in
-    let q : b.place ≡ length h / 80 = omega arith in
-    ends_past h b.place q b.invariant.4 _ b.invariant.3 _ c.judge_end.ensures _ c.answer_for-2.ensures
+    let e = cards_end c.into_iter-place-iterator.result c.args.header.now (cc) (cc) (cc) c.loop-place.yielded _ c.loop-place.yielded_by _ _ c.next.ensures.steps c.in-None.is in
+    ends_past c.args.header.now (length b.yielded) e b.invariant.3 _ b.invariant.2 _ c.judge_end.ensures _ c.answer_for-2.ensures

@@ -7,10 +7,10 @@ use mathlib.Core.Path.{◌≡◌, refl, sym, ap, ◌∙◌}
 use mathlib.Core.List.{List}
 use mathlib.Core.Bool.{Bool, true, false, cond}
 use lib.Dec.{ltb}
-use lib.ListN.{length, get_or, take, drop, length-take, length-drop}
+use lib.ListN.{length, take, drop, length-take, length-drop}
 use lib.Seq.{length-take-le}
 use Rattle.base_lists.specs.Parts.{part}
-use borrow.Author.Tests.{eq-eqb, ne_eqb, ltb-true}
+use borrow.Author.Tests.{ne_eqb, ltb-true}
 use Rattle.format_code.specs.declared.Code.{Code}
 use Rattle.format_code.specs.declared.Code.TheVariants as code
 use Rattle.format_code.specs.Codes.{codes, place_in, code_at, code_of}
@@ -18,10 +18,8 @@ use Rattle.format_code.proofs.Walk.{wrong_length}
 use Rattle.format_layout.specs.Table.{layouts}
 use Rattle.format_layout.specs.packed.Rows.{layout_count}
 use Rattle.format_layout.proofs.Places.{layouts-count}
-use Rattle.format_layout.specs.declared.Form.{Form}
-use Rattle.format_layout.specs.declared.Form.TheVariants.{Unknown}
-use Rattle.header_check.specs.forms.Cards.{card_at, byte_in, number_of, unread, code_by, layout_of}
-use Rattle.header_check.specs.packed.Notes.{mark, told, note_at, note_card, notes_to, form_by}
+use Rattle.header_check.specs.forms.Cards.{card_at, number_of, unread, code_by, layout_of}
+use Rattle.header_check.specs.packed.Notes.{note_card, notes_to}
 
 -- a card too short for a code is not read
 pub too_short : (s : List ℕ) → length s < 5 → unread + 1 ≡ layout_of s
@@ -67,50 +65,11 @@ read-code s k e l =
     ))
     ∙ code_back s k e
 
--- a card seen: it states a line's form, the grid's, or none
-module _ (t s : List ℕ) (k : ℕ) (is : k ≡ layout_of s) where
-  pub seen_line : k ≡ 8 → (v p b : ℕ) → v ≡ get_or s 29 0 → p ≡ 1 + v → b ≡ get_or s 31 0
-      → (r : List ℕ) → r ≡ note_at t p b → r ≡ note_card t s
-  unfolding note_card byte_in
-  seen_line q v p b ev ep eb r e = rw (← is, eq-eqb k 8 q, ← ev, ← ep, ← eb) e
-
-  pub seen_grid : (k ≡ 8 → ⊥) → k ≡ 12 → (b : ℕ) → b ≡ get_or s 20 0 → (r : List ℕ) → r ≡ note_at t 0 b → r ≡ note_card t s
-  unfolding note_card byte_in
-  seen_grid l q b eb r e = rw (← is, ne_eqb k 8 l, eq-eqb k 12 q, ← eb) e
-
-  pub seen_other : (k ≡ 8 → ⊥) → (k ≡ 12 → ⊥) → t ≡ note_card t s
-  unfolding note_card
-  seen_other l m = rw (← is, ne_eqb k 8 l, ne_eqb k 12 m)
-
 -- one card more
 pub one_more : (h t s : List ℕ) (c : ℕ) → t ≡ notes_to h c → s ≡ card_at h c
     → (r : List ℕ) → r ≡ note_card t s → r ≡ notes_to h (c + 1)
 unfolding notes_to
 one_more h t s c e q r f = rw (add-one, ← e, ← q) f
-
--- the form of a card by the notes
-module _ (t s : List ℕ) (k : ℕ) where
-  pub own_form : k ≡ 8 → (b m : ℕ) → b ≡ get_or s 31 0 → m ≡ mark b → (r : Form) → r ≡ told m → r ≡ form_by t k s
-  unfolding form_by byte_in
-  own_form q b m eb em r e = rw (eq-eqb k 8 q, ← eb, ← em) e
-
-  pub line-form : (k ≡ 8 → ⊥) → k ≡ 9 → (v p : ℕ) → v ≡ get_or s 6 0 → p ≡ 1 + v
-      → (r : Form) → r ≡ told (get_or t p 0) → r ≡ form_by t k s
-  unfolding form_by byte_in
-  line-form l q v p ev ep r e = rw (ne_eqb k 8 l, eq-eqb k 9 q, ← ev, ← ep) e
-
-  pub grid_form_lem : (k ≡ 8 → ⊥) → (k ≡ 9 → ⊥) → k ≡ 13 → (r : Form) → r ≡ told (get_or t 0 0) → r ≡ form_by t k s
-  unfolding form_by
-  grid_form_lem l m q r e = rw (ne_eqb k 8 l, ne_eqb k 9 m, eq-eqb k 13 q) e
-
-  pub node_form : (k ≡ 8 → ⊥) → (k ≡ 9 → ⊥) → (k ≡ 13 → ⊥) → k ≡ 27 → (b m : ℕ) → b ≡ get_or s 28 0 → m ≡ mark b
-      → (r : Form) → r ≡ told m → r ≡ form_by t k s
-  unfolding form_by byte_in
-  node_form l m n q b d eb ed r e = rw (ne_eqb k 8 l, ne_eqb k 9 m, ne_eqb k 13 n, eq-eqb k 27 q, ← eb, ← ed) e
-
-  pub no_form : (k ≡ 8 → ⊥) → (k ≡ 9 → ⊥) → (k ≡ 13 → ⊥) → (k ≡ 27 → ⊥) → Unknown ≡ form_by t k s
-  unfolding form_by
-  no_form l m n o = rw (ne_eqb k 8 l, ne_eqb k 9 m, ne_eqb k 13 n, ne_eqb k 27 o)
 
 -- a card as a part of the header
 pub card_part : (h : List ℕ) (c : ℕ) → take (c * 80 + 80 - c * 80) (drop (c * 80) h) ≡ card_at h c

@@ -2,9 +2,9 @@
 use mathlib.Core.Path.{sym, ap, ◌∙◌}
 use native.Mathlib.Omega.{arith}
 use borrow.Author.Rules.{rules}
-use Rattle.media_diskette.specs.declared.Converted.TheVariants.{Refused}
 use Rattle.media_diskette.proofs.Judging.{counted-begins, end_within, step_end, step_stop, step_on, over_open, over_done}
 use Rattle.media_diskette.proofs.count_lines.Goals as goal
+use Rattle.std.specs.Prelude.{Err}
 
 pub loop-i-init : goal.loop-i-init
 loop-i-init c = (search rules, search rules, search rules, counted-begins _)
@@ -45,7 +45,7 @@ pub returns-in-loop-i : goal.returns-in-loop-i
 returns-in-loop-i c =
     let l = c.loop-i in
     let f = c.args.file.now in
-    ap Refused c.refuse.ensures
+    ap Err c.refuse.ensures
     ∙ step_stop f l.lines l.k l.i c.loop-i-test.true c.byte_at.result c.offence_of-number.result
     c.byte_at.ensures c.if-b-byte_at.false c.offence_of-number.ensures c.if-number-eq0.false
     ∙ sym l.invariant.3
@@ -54,7 +54,7 @@ pub returns-then-k-ne0 : goal.returns-then-k-ne0
 returns-then-k-ne0 c =
     let l = c.loop-i in
     let f = c.args.file.now in
-    ap Refused c.refuse-then-k-ne0.ensures ∙ over_open f l.lines l.k l.i c.loop-i-test.false c.if-k-ne0.true ∙ sym l.invariant.3
+    ap Err c.refuse-then-k-ne0.ensures ∙ over_open f l.lines l.k l.i c.loop-i-test.false c.if-k-ne0.true ∙ sym l.invariant.3
 
 pub returns : goal.returns
 returns c =

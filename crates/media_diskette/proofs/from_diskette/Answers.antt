@@ -7,24 +7,24 @@ use Rattle.media_diskette.proofs.from_diskette.Goals as goal
 
 pub lay_cards-requires : goal.lay_cards-requires
 lay_cards-requires c =
-    let k = known c.args.out.now c.in_room-answer.result c.judge_file.result _ c.in_room-answer.ensures c.judge_file.ensures _ c.in-Length.is in
+    let k = known c.args.out.now c.in_room-answer.result c.judge_file.result _ c.in_room-answer.ensures c.judge_file.ensures _ c.in-Ok.is in
     let x = file_fine c.args.file.now _ k.0 in
     (x.good, omega (arith, x.size, k.1))
 
-pub returns-in-Length : goal.returns-in-Length
+pub returns-in-Ok : goal.returns-in-Ok
 unfolding from_answer
-returns-in-Length c =
-    let k = known c.args.out.now c.in_room-answer.result c.judge_file.result _ c.in_room-answer.ensures c.judge_file.ensures _ c.in-Length.is in
+returns-in-Ok c =
+    let k = known c.args.out.now c.in_room-answer.result c.judge_file.result _ c.in_room-answer.ensures c.judge_file.ensures _ c.in-Ok.is in
     let x = file_fine c.args.file.now _ k.0 in
     let w =
-    written c.args.out.now c.in_room-answer.result c.judge_file.result _ c.in_room-answer.ensures c.judge_file.ensures _ _ _ _ c.in-Length.is c.lay_cards.ensures x.size
+    written c.args.out.now c.in_room-answer.result c.judge_file.result _ c.in_room-answer.ensures c.judge_file.ensures _ _ _ _ c.in-Ok.is c.lay_cards.ensures x.size
     in
     record { answer = w.0; out = w.1 }
 
-pub returns-in-Refused : goal.returns-in-Refused
+pub returns-in-Err : goal.returns-in-Err
 unfolding from_answer
-returns-in-Refused c =
+returns-in-Err c =
     let w =
-    left_alone c.args.out.now c.in_room-answer.result c.judge_file.result _ c.in_room-answer.ensures c.judge_file.ensures (cards_from c.args.file.now) _ c.in-Refused.is
+    left_alone c.args.out.now c.in_room-answer.result c.judge_file.result _ c.in_room-answer.ensures c.judge_file.ensures (cards_from c.args.file.now) _ c.in-Err.is
     in
     record { answer = w.0; out = w.1 }

@@ -1,81 +1,49 @@
 -- `media_diskette::lay_lines` meets its contract: what was laid, and what is left to lay.
-use Prim.Native.Nat.{◌/◌}
-use mathlib.Core.Path.{sym, ap, ◌∙◌}
-use mathlib.Core.List.{List}
-use Prim.Native.Nat.{ℕ}
-use lib.ListN.{length}
-use native.Mathlib.Omega.{arith}
-use borrow.Author.Rules.{rules}
-use Rattle.media_diskette.specs.Lines.{line_of}
-use Rattle.media_diskette.proofs.Judging.{card_is, card_ends}
-use Rattle.media_diskette.proofs.Laying.{laid_disk, more_length, part_room, next-line, laid-over}
+use Rattle.std.proofs.Common.{◌≡◌, ◌+◌, ◌≤◌, ◌++◌, length, length-append, ap, sym, ◌∙◌, arith}
+use Rattle.std.specs.Slice.Iter.{chunks_exact_rest}
+use Rattle.media_diskette.specs.Lines.{line_of, disk_of}
+use Rattle.media_diskette.proofs.Cards.{no_line, first_line}
+use Rattle.media_diskette.proofs.Laying.{laid_at, laid_first, laid_none, part_room, room_left, next-line}
 use Rattle.media_diskette.proofs.lay_lines.Goals as goal
 
-pub loop-place-init : goal.loop-place-init
-loop-place-init c =
-    let h = c.args.cards.now in
-    let d = laid_disk h c.args.out.now in
-    (search rules, search rules, omega (arith, d.0, c.requires), d.1)
-
-pub overflow_mul-from : goal.overflow_mul-from
-overflow_mul-from c = omega (arith, card_ends c.args.cards.now c.loop-place.place c.loop-place-test.true)
-
-pub slice_bounds-lay_line-count : goal.slice_bounds-lay_line-count
-slice_bounds-lay_line-count c =
-    let l = c.loop-place in
-    let h = c.args.cards.now in
-    omega (arith, l.invariant.2, more_length h (length h / 80) l.place c.loop-place-test.true)
-
-pub slice_bounds-lay_line-start : goal.slice_bounds-lay_line-start
-slice_bounds-lay_line-start c =
-    let l = c.loop-place in
-    let h = c.args.cards.now in
-    omega (arith, l.invariant.2, more_length h (length h / 80) l.place c.loop-place-test.true)
-
-pub slice_bounds-lay_line-end : goal.slice_bounds-lay_line-end
-slice_bounds-lay_line-end c =
-    let l = c.loop-place in
-    let h = c.args.cards.now in
-    omega (arith, l.invariant.2, more_length h (length h / 80) l.place c.loop-place-test.true)
-
-pub overflow_add-from : goal.overflow_add-from
-overflow_add-from c = omega (arith, card_ends c.args.cards.now c.loop-place.place c.loop-place-test.true)
-
-pub slice_bounds-lay_line-count-in-loop-place : goal.slice_bounds-lay_line-count-in-loop-place
-slice_bounds-lay_line-count-in-loop-place c = omega (arith, card_ends c.args.cards.now c.loop-place.place c.loop-place-test.true)
-
-pub slice_bounds-lay_line-start-in-loop-place : goal.slice_bounds-lay_line-start-in-loop-place
-slice_bounds-lay_line-start-in-loop-place c = omega (arith, card_ends c.args.cards.now c.loop-place.place c.loop-place-test.true)
-
-pub slice_bounds-lay_line-end-in-loop-place : goal.slice_bounds-lay_line-end-in-loop-place
-slice_bounds-lay_line-end-in-loop-place c = omega (arith, card_ends c.args.cards.now c.loop-place.place c.loop-place-test.true)
+pub loop-card-init : goal.loop-card-init
+loop-card-init c =
+    let e : chunks_exact_rest c.into_iter-card-iterator.result ≡ c.args.cards.now = cc in
+    record {
+      size = cc;
+      room = rw e (omega (arith, c.requires));
+      laid = ap (λ h. laid_at c.args.out.now 0 (disk_of h)) e ∙ laid_first c.args.out.now (disk_of c.args.cards.now);
+    }
 
 pub lay_line-at-requires : goal.lay_line-at-requires
 lay_line-at-requires c =
-    let l = c.loop-place in
-    let h = c.args.cards.now in
-    part_room h l.out l.place l.at (omega (arith, l.invariant.2, more_length h (length h / 80) l.place c.loop-place-test.true))
+    let l = c.loop-card in
+    let rest = chunks_exact_rest c.next.new.self in
+    let s = c.in-Some.ensures.steps in
+    let more : disk_of (chunks_exact_rest l.card-iterator) ≡ line_of c.in-Some.card.now ++ disk_of rest =
+    ap disk_of s.1.0 ∙ first_line c.in-Some.card.now rest (s.1.1 ∙ l.invariant.size) in
+    part_room l.out (line_of c.in-Some.card.now) l.at
+    (omega (arith, l.invariant.room, ap length more, length-append (line_of c.in-Some.card.now) (disk_of rest)))
 
-pub overflow_add-at : goal.overflow_add-at
-overflow_add-at c =
-    let l = c.loop-place in
-    let h = c.args.cards.now in
-    let fits = more_length h (length h / 80) l.place c.loop-place-test.true in
-    omega (arith, c.lay_line-at.ensures.size, ap (λ (x : List ℕ). length (line_of x)) (card_is h l.place), fits, l.invariant.2, l.invariant.1)
-
-pub loop-place-preserved : goal.loop-place-preserved
-loop-place-preserved c =
-    let l = c.loop-place in
-    let h = c.args.cards.now in
+pub loop-card-preserved : goal.loop-card-preserved
+loop-card-preserved c =
+    let l = c.loop-card in
     let r = c.lay_line-at in
-    let x = next-line h l.out r.new.out (length h / 80) l.place l.at r.result c.loop-place-test.true l.invariant.2 r.ensures.size r.ensures.out in
-    (omega arith, x.0 ∙ l.invariant.1, x.1, x.2 ∙ l.invariant.3)
-
-pub shape_of-out : goal.shape_of-out
-shape_of-out c = c.loop-place.invariant.1
+    let rest = disk_of (chunks_exact_rest c.next.new.self) in
+    let line = line_of c.in-Some.card.now in
+    let s = c.in-Some.ensures.steps in
+    let more : disk_of (chunks_exact_rest l.card-iterator) ≡ line ++ rest =
+    ap disk_of s.1.0 ∙ first_line c.in-Some.card.now (chunks_exact_rest c.next.new.self) (s.1.1 ∙ l.invariant.size) in
+    let room : l.at + length (line ++ rest) ≤ length l.out = omega (arith, l.invariant.room, ap length more) in
+    record {
+      size = s.0 ∙ l.invariant.size;
+      room = room_left l.out r.new.out line rest l.at r.result room r.ensures.size r.ensures.out;
+      laid = next-line l.out r.new.out line rest l.at r.result room r.ensures.size r.ensures.out ∙ sym (ap (laid_at l.out l.at) more) ∙ l.invariant.laid;
+    }
 
 pub returns : goal.returns
 returns c =
-    let l = c.loop-place in
-    let h = c.args.cards.now in
-    sym (laid-over h l.out (length h / 80) l.place l.at c.loop-place-test.false) ∙ l.invariant.3
+    let l = c.loop-card in
+    let s = c.in-None.ensures.steps in
+    sym (ap (laid_at l.out l.at) (no_line (chunks_exact_rest l.card-iterator) (omega (arith, s.1.0, l.invariant.size))) ∙ laid_none l.out l.at)
+    ∙ l.invariant.laid

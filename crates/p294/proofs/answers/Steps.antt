@@ -11,9 +11,11 @@ use mir.ValLaws.{to_z-of_z}
 use Rattle.base_digits.specs.digits.Figures.{capped}
 use Rattle.base_digits.specs.signs.Signs.{signed_of}
 use Rattle.base_value.specs.declared.Value.TheVariants.{Absent, Whole, Decimal, Angle, Date, Text}
+use Rattle.p294.specs.answers.Replies.{reply, value_reply, refused_reply, field_reply, text_reply, says_other, text_alone, text_in}
+use Rattle.std.specs.Prelude.{Result, Ok, Err}
 use Rattle.card_field.specs.declared.FieldRead.{FieldRead}
-use Rattle.card_field.specs.declared.FieldRead.TheVariants as read
-use Rattle.p294.specs.answers.Replies.{reply, value_reply, refused_reply, field_reply, text_reply, says_other, text_alone}
+use Rattle.base_refusal.specs.declared.Refusal.{Refusal}
+use Rattle.base_value.specs.declared.Value.{Value}
 
 -- a signed number that lay in memory is itself
 pub back : (z w : ℤ) → SFits w64 z → z ≡ w → to_z w64 (of_z w64 z) ≡ w
@@ -43,12 +45,15 @@ refusal-not zero = refl
 refusal-not (suc n) = refl
 
 -- the answer to a field, but for a value of another kind, is the answer of its text
-pub text_alone_lem : (f : FieldRead) → text_alone (field_reply f) ≡ text_reply f
+pub text_alone_lem : (f : Result FieldRead Refusal) → text_alone (field_reply f) ≡ text_reply f
 unfolding text_alone field_reply value_reply refused_reply text_reply
-text_alone_lem (read.Is Absent m) = refl
-text_alone_lem (read.Is (Whole z) m) = refl
-text_alone_lem (read.Is (Decimal d) m) = refl
-text_alone_lem (read.Is (Angle z) m) = refl
-text_alone_lem (read.Is (Date d) m) = refl
-text_alone_lem (read.Is (Text c) m) = refl
-text_alone_lem (read.Refused x) = rw (refusal-not (capped x.number))
+text_alone_lem (Err x) = rw (refusal-not (capped x.number))
+text_alone_lem (Ok f) = go f.value
+  where
+    go : (v : Value) → text_alone (value_reply f.misplaced v) ≡ text_in f.misplaced v
+    go Absent = refl
+    go (Whole z) = refl
+    go (Decimal d) = refl
+    go (Angle z) = refl
+    go (Date d) = refl
+    go (Text c) = refl

@@ -8,16 +8,17 @@ use mir.Syntax.{w64}
 use mir.ValLaws.{to_z-of_z}
 use Rattle.base_value.specs.declared.Decimal.{Decimal}
 use Rattle.base_value.specs.Sums.{decimal}
-use Rattle.survey_compass.specs.declared.Heading.{Heading}
 use Rattle.survey_compass.specs.Headings.{heading_of}
 use Rattle.p294.specs.declared.answers.Reply.{Reply}
 use Rattle.p294.specs.answers.Replies.{heading_reply}
 use Rattle.p294.proofs.Giving.{answered}
 use borrow.Author.Rules.{rules}
 use Rattle.p294.proofs.p294_heading.Goals as goal
+use Rattle.std.specs.Prelude.{Result}
+use Rattle.base_refusal.specs.declared.Refusal.{Refusal}
 
 replied : (h t : List ℕ) (raw : ℤ) (places : ℕ) (direction : ℤ) (u v : ℤ) → u ≡ raw → v ≡ direction
-    → (x : Decimal) → x ≡ decimal u places → (a : Heading) → a ≡ heading_of h t x v → (r : Reply) → r ≡ heading_reply a
+    → (x : Decimal) → x ≡ decimal u places → (a : Result Decimal Refusal) → a ≡ heading_of h t x v → (r : Reply) → r ≡ heading_reply a
     → r ≡ heading_reply (heading_of h t (decimal raw places) direction)
 replied h t raw places direction u v eu ev x ex a ea r er =
     er ∙ ap heading_reply (ea ∙ ap₂ (heading_of h t) (ex ∙ ap (λ z. decimal z places) eu) ev)

@@ -1,35 +1,16 @@
 -- Each answer as numbers: one that says it, and the three that go with it.
-use Rattle.std.specs.Prelude.{ℕ, Bool, true, false, cond, ◌&&◌, not, eqb, ltb, ℤ, pos, negsuc}
+use Rattle.std.specs.Prelude.{ℕ, Bool, true, false, cond, ◌&&◌, not, eqb, ltb, ℤ, pos, negsuc, Result, Ok, Err, ⊤}
 use Rattle.base_digits.specs.digits.Figures.{capped}
 use Rattle.base_digits.specs.signs.Signs.{signed_of}
 use Rattle.base_refusal.specs.declared.Refusal.{Refusal}
 use Rattle.base_value.specs.declared.Value.{Value}
 use Rattle.base_value.specs.declared.Value.TheVariants.{Absent, Whole, Decimal, Angle, Date, Text}
-use Rattle.card_field.specs.declared.FieldRead.{FieldRead}
-use Rattle.card_field.specs.declared.FieldRead.TheVariants as read
-use Rattle.card_put.specs.declared.Entered.{Entered}
-use Rattle.card_put.specs.declared.Entered.TheVariants as entered
-use Rattle.card_put.specs.declared.opening.Opened.{Opened}
-use Rattle.card_put.specs.declared.opening.Opened.TheVariants as opened
-use Rattle.media_diskette.specs.declared.Converted.{Converted}
-use Rattle.media_diskette.specs.declared.Converted.TheVariants as converted
-use Rattle.tie_check.specs.declared.Ties.{Ties}
-use Rattle.tie_check.specs.declared.Ties.TheVariants as ties
-use Rattle.survey_datums.specs.declared.listing.Listed.{Listed}
-use Rattle.survey_datums.specs.declared.listing.Listed.TheVariants as listed
 use Rattle.tie_lookup.specs.declared.questions.Defined.{Defined}
 use Rattle.tie_lookup.specs.declared.questions.Defined.TheVariants as defined
-use Rattle.media_ebcdic.specs.declared.Translated.{Translated}
-use Rattle.media_ebcdic.specs.declared.Translated.TheVariants as translated
-use Rattle.volume_check.specs.declared.Counted.{Counted}
-use Rattle.volume_check.specs.declared.Counted.TheVariants as counted
-use Rattle.volume_check.specs.declared.Found.{Found}
-use Rattle.volume_check.specs.declared.Found.TheVariants as found
-use Rattle.volume_edit.specs.declared.Volume.{Volume}
-use Rattle.volume_edit.specs.declared.Volume.TheVariants as volume
-use Rattle.survey_compass.specs.declared.Heading.{Heading}
-use Rattle.survey_compass.specs.declared.Heading.TheVariants as heading
+use Rattle.base_value.specs.declared.Decimal.{Decimal as Units}
 use Rattle.p294.specs.declared.answers.Reply.{Reply}
+use Rattle.card_field.specs.declared.FieldRead.{FieldRead}
+use Rattle.volume_check.specs.declared.LinePlace.{LinePlace}
 
 abbrev pub reply : ℤ → ℤ → ℤ → ℤ → Reply
 reply said a b c = record { said = said; first = a; second = b; third = c }
@@ -61,19 +42,23 @@ value_reply misplaced (Date d) = reply (pos 4) (plain d.year) (plain d.month) (p
 value_reply misplaced (Text c) = reply (pos 5) (plain c.first) (plain c.last) (pos 0)
 
 -- a field: its value, or its refusal
-unfoldable pub field_reply : FieldRead → Reply
-field_reply (read.Is v misplaced) = value_reply misplaced v
-field_reply (read.Refused r) = refused_reply r
+unfoldable pub field_reply : Result FieldRead Refusal → Reply
+field_reply (Ok f) = value_reply f.misplaced f.value
+field_reply (Err r) = refused_reply r
+
+-- a value that is a text: 5 and its columns; 0 for any other
+abbrev pub text_in : Bool → Value → Reply
+text_in m Absent = done_reply
+text_in m (Whole z) = done_reply
+text_in m (Decimal d) = done_reply
+text_in m (Angle z) = done_reply
+text_in m (Date d) = done_reply
+text_in m (Text c) = value_reply m (Text c)
 
 -- a text: 5 and its columns; 0 where the field has none; or the field's refusal
-unfoldable pub text_reply : FieldRead → Reply
-text_reply (read.Is Absent m) = done_reply
-text_reply (read.Is (Whole z) m) = done_reply
-text_reply (read.Is (Decimal d) m) = done_reply
-text_reply (read.Is (Angle z) m) = done_reply
-text_reply (read.Is (Date d) m) = done_reply
-text_reply (read.Is (Text c) m) = value_reply m (Text c)
-text_reply (read.Refused r) = refused_reply r
+unfoldable pub text_reply : Result FieldRead Refusal → Reply
+text_reply (Ok f) = text_in f.misplaced f.value
+text_reply (Err r) = refused_reply r
 
 -- an answer that says the kind of a value which is there and no text
 abbrev pub says_other : ℤ → Bool
@@ -85,14 +70,14 @@ unfoldable pub text_alone : Reply → Reply
 text_alone r = cond (says_other r.said) done_reply r
 
 -- an entry: 0, or its refusal
-unfoldable pub entered_reply : Entered → Reply
-entered_reply entered.Done = done_reply
-entered_reply (entered.Refused r) = refused_reply r
+unfoldable pub entered_reply : Result ⊤ Refusal → Reply
+entered_reply (Ok _) = done_reply
+entered_reply (Err r) = refused_reply r
 
 -- an opening: 0, or its refusal
-unfoldable pub opened_reply : Opened → Reply
-opened_reply opened.Done = done_reply
-opened_reply (opened.Refused r) = refused_reply r
+unfoldable pub opened_reply : Result ⊤ Refusal → Reply
+opened_reply (Ok _) = done_reply
+opened_reply (Err r) = refused_reply r
 
 -- so many
 unfoldable pub count_reply : ℕ → Reply
@@ -103,48 +88,48 @@ unfoldable pub only_reply : ℕ → ℕ → Reply
 only_reply card column = reply (pos 1) (plain card) (plain column) (pos 0)
 
 -- a check: the number of all faults, or the header's refusal
-unfoldable pub ties_reply : Ties → Reply
-ties_reply (ties.Found n) = count_reply n
-ties_reply (ties.Refused r) = refused_reply r
+unfoldable pub ties_reply : Result ℕ Refusal → Reply
+ties_reply (Ok n) = count_reply n
+ties_reply (Err r) = refused_reply r
 
 -- a key: the number of its definitions, with the place of the only one; or the refusal
-unfoldable pub key_reply : Defined → Reply
-key_reply defined.None = done_reply
-key_reply (defined.Only card column) = only_reply card column
-key_reply (defined.Several n) = count_reply n
-key_reply (defined.Refused r) = refused_reply r
+unfoldable pub key_reply : Result Defined Refusal → Reply
+key_reply (Ok defined.None) = done_reply
+key_reply (Ok (defined.Only card column)) = only_reply card column
+key_reply (Ok (defined.Several n)) = count_reply n
+key_reply (Err r) = refused_reply r
 
 -- a conversion: the length written, or its refusal
-unfoldable pub converted_reply : Converted → Reply
-converted_reply (converted.Length n) = count_reply n
-converted_reply (converted.Refused r) = refused_reply r
+unfoldable pub converted_reply : Result ℕ Refusal → Reply
+converted_reply (Ok n) = count_reply n
+converted_reply (Err r) = refused_reply r
 
 -- a translation: the number of bytes written, or its refusal
-unfoldable pub translated_reply : Translated → Reply
-translated_reply (translated.Done n) = count_reply n
-translated_reply (translated.Refused r) = refused_reply r
+unfoldable pub translated_reply : Result ℕ Refusal → Reply
+translated_reply (Ok n) = count_reply n
+translated_reply (Err r) = refused_reply r
 
 -- a volume's lines: how many, or its refusal
-unfoldable pub lines_reply : Counted → Reply
-lines_reply (counted.Lines n) = count_reply n
-lines_reply (counted.Refused r) = refused_reply r
+unfoldable pub lines_reply : Result ℕ Refusal → Reply
+lines_reply (Ok n) = count_reply n
+lines_reply (Err r) = refused_reply r
 
 -- a line of a volume: how many cards it has, its first card, its directory card; or the refusal
-unfoldable pub line_reply : Found → Reply
-line_reply (found.Line first number entry) = reply (plain number) (plain first) (plain entry) (pos 0)
-line_reply (found.Refused r) = refused_reply r
+unfoldable pub line_reply : Result LinePlace Refusal → Reply
+line_reply (Ok l) = reply (plain l.cards) (plain l.first) (plain l.entry) (pos 0)
+line_reply (Err r) = refused_reply r
 
 -- writing to a volume: how many cards it now has, or the refusal
-unfoldable pub volume_reply : Volume → Reply
-volume_reply (volume.Cards n) = count_reply n
-volume_reply (volume.Refused r) = refused_reply r
+unfoldable pub volume_reply : Result ℕ Refusal → Reply
+volume_reply (Ok n) = count_reply n
+volume_reply (Err r) = refused_reply r
 
 -- routes: the number of datums that have one, or the refusal
-unfoldable pub routes_reply : Listed → Reply
-routes_reply (listed.Routed n) = count_reply n
-routes_reply (listed.Refused r) = refused_reply r
+unfoldable pub routes_reply : Result ℕ Refusal → Reply
+routes_reply (Ok n) = count_reply n
+routes_reply (Err r) = refused_reply r
 
 -- a heading: 2, its units and places, as a decimal that is read; or its refusal
-unfoldable pub heading_reply : Heading → Reply
-heading_reply (heading.Is d) = value_reply false (Decimal d)
-heading_reply (heading.Refused r) = refused_reply r
+unfoldable pub heading_reply : Result Units Refusal → Reply
+heading_reply (Ok d) = value_reply false (Decimal d)
+heading_reply (Err r) = refused_reply r

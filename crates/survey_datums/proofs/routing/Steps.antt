@@ -1,34 +1,36 @@
--- The scan for the next datum, step by step; and one datum's shifts at one level.
+-- What the search for the next datum finds; and one datum's shifts at one level.
 -- Assumes nothing.
-use Prim.Native.Nat.{ℕ, ◌+◌, ◌-◌, ◌<◌}
+use Prim.Native.Nat.{ℕ, ◌+◌, ◌≤◌, ◌<◌}
 use native.Mathlib.Omega.{arith}
-use mathlib.Core.Path.{◌≡◌, sym, ◌∙◌}
-use mathlib.Core.Bool.{Bool, true, false, ◌&&◌}
+use mathlib.Core.Path.{◌≡◌, sym}
+use mathlib.Core.Bool.{Bool, true, false, cond, ◌&&◌}
 use mathlib.Core.List.{List}
 use lib.Dec.{eqb, ltb}
 use lib.ListN.{get_or}
 use borrow.Author.Tests.{eq-eqb, ne_eqb, lt-ltb, le-ltb}
-use Rattle.base_lists.specs.Count.{first_from}
-use Rattle.base_lists.proofs.Finding.{begins, stops, goes, over}
+use Rattle.std.specs.Option.{MatchOption, IfSome, is_some, unwrap_or}
+use Rattle.std.specs.Prelude.{Option, Some, None}
+use Rattle.base_lists.proofs.Finding.{first_unique, first-none}
 use Rattle.survey_datums.specs.routing.Tables.{next_in, further_by}
 
 module _ (row shifts : List ℕ) (n : ℕ) where
   abbrev pub fits : ℕ → Bool
   fits b = ltb 0 (get_or row b 0) && eqb (get_or shifts b 0) n
 
-  pub next-begins : next_in row shifts n ≡ first_from fits (9 - 0) 0
+  -- what a search of the nine finds
+  pub next_found : (r : Option ℕ)
+      → MatchOption r ((k : ℕ) → 0 ≤ k → k < 9 → fits k ≡ false)
+      (λ i. (0 ≤ i) × (i < 9) × (fits i ≡ true) × ((k : ℕ) → 0 ≤ k → k < i → fits k ≡ false))
+      → unwrap_or r 9 ≡ next_in row shifts n
   unfolding next_in
-  next-begins = begins fits 9
+  next_found None none = sym (first-none fits 9 (λ k l. none k (omega arith) l))
+  next_found (Some i) h = sym (first_unique fits 9 i h.1 h.2 (λ k l. h.3 k (omega arith) l))
 
-  module _ (b : ℕ) (so_far : next_in row shifts n ≡ first_from fits (9 - b) b) where
-    pub next_stops : b < 9 → fits b ≡ true → b ≡ next_in row shifts n
-    next_stops l e = sym (so_far ∙ stops fits 9 b l e)
-
-    pub next_goes : b < 9 → fits b ≡ false → next_in row shifts n ≡ first_from fits (9 - (b + 1)) (b + 1)
-    next_goes l e = so_far ∙ goes fits 9 b l e
-
-    pub next-over : b ≡ 9 → 9 ≡ next_in row shifts n
-    next-over e = sym (so_far ∙ over fits 9 b (omega arith) ∙ e)
+  pub further_as : (old : ℕ) (r : Option ℕ) → unwrap_or r 9 ≡ next_in row shifts n → IfSome r (λ b. b < 9)
+      → further_by row shifts n old ≡ cond (eqb old 9 && is_some r) (1 + n) old
+  unfolding further_by
+  further_as old None e h = rw (← e)
+  further_as old (Some b) e h = rw (← e, lt-ltb b 9 h)
 
   module _ (old : ℕ) where
     pub known_stays : (old ≡ 9 → ⊥) → old ≡ further_by row shifts n old

@@ -1,5 +1,5 @@
 -- Entries stored one after the other, as far as they fit, are laid.
-use Prim.Native.Nat.{ℕ, suc, ◌+◌, ◌*◌, ◌≤◌}
+use Prim.Native.Nat.{ℕ, suc, ◌+◌, ◌*◌}
 use native.Mathlib.Nat.{add-zero}
 use native.Mathlib.Numerals.{add-one}
 use native.Mathlib.Decide.{dec_le}
@@ -8,7 +8,7 @@ use lib.Seq.{length-sets}
 use mathlib.Core.Path.{◌≡◌, refl, sym, ap, ◌∙◌}
 use mathlib.Core.Bool.{Bool, true, false, cond}
 use mathlib.Core.List.{List, [], ◌∷◌, ◌++◌, append_assoc, append-nil}
-use lib.ListN.{length, set, length-append}
+use lib.ListN.{length, length-append}
 use Rattle.base_lists.specs.Count.{bit}
 use Rattle.base_lists.specs.Parts.{keep}
 use Rattle.base_lists.specs.Laid.{laid, stored}
@@ -26,13 +26,6 @@ stored-append (e ∷ a) b l k =
     let q : k + suc (length a) ≡ suc k + length a = omega arith in
     rw q (stored-append a b (stored l (entry_size * k) e) (suc k))
 
--- an entry where its test passed
-pub stored-keep : (t : Bool) (e : List ℕ) (l : List ℕ) (k : ℕ)
-    → cond t (stored l (entry_size * k) e) l ≡ stored_all l k (keep t e [])
-unfolding stored_all
-stored-keep true e l k = refl
-stored-keep false e l k = refl
-
 -- entries of one size, stored behind what was laid
 laid_on : (es : List (List ℕ)) → Sized es → (l w : List ℕ) (k : ℕ) → length w ≡ entry_size * k
     → stored_all (laid entry_size l w) k es ≡ laid entry_size l (w ++ joined es)
@@ -47,15 +40,6 @@ laid_on (x ∷ es) t l w k e =
 -- all entries from the front
 pub stored-laid : (es : List (List ℕ)) → Sized es → (l : List ℕ) → stored_all l 0 es ≡ laid entry_size l (joined es)
 stored-laid es t l = ap (λ r. stored_all r 0 es) (sym (laid-nothing entry_size l)) ∙ laid_on es t l [] 0 refl
-
--- the numbers of an entry, one after the other
-pub numbers_stored : (l : List ℕ) (at a b d e : ℕ) → at + entry_size ≤ length l
-    → set (set (set (set l at a) (at + 1) b) (at + 2) d) (at + 3) e ≡ stored l at (a ∷ b ∷ d ∷ e ∷ [])
-numbers_stored l at a b d e h =
-    let p : at + 1 ≡ suc at = omega arith in
-    let q : at + 2 ≡ suc (suc at) = omega arith in
-    let r : at + 3 ≡ suc (suc (suc at)) = omega arith in
-    rw (p, q, r) (sym (stored_sets l at (a ∷ b ∷ d ∷ e ∷ []) h))
 
 -- one kind after the other
 kind_more : (t : Bool) (e : List ℕ) (es : List (List ℕ)) (l m : List ℕ) (k j : ℕ)

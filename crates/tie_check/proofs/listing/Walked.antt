@@ -11,7 +11,6 @@ use Rattle.base_lists.specs.Parts.{up_to}
 use Rattle.base_lists.proofs.Entries.{entries_more}
 use Rattle.format_layout.specs.Layouts.{fields_of}
 use Rattle.header_check.specs.forms.Cards.{card_at, cards_in, layout_of}
-use Rattle.header_check.specs.declared.Checked.TheVariants.{Accepted}
 use Rattle.header_check.specs.Refusing.{refusal_of}
 use Rattle.header_laws.proofs.Accepted.{few-cards, printed}
 use Rattle.tie_rules.specs.Keys.{vessel_of}
@@ -33,6 +32,7 @@ use Rattle.tie_check.proofs.begins.Columns.{walked_below}
 use Rattle.tie_check.proofs.judging.Judged.{judged}
 use Rattle.tie_check.proofs.listing.Columns.{of_column}
 use Rattle.tie_check.proofs.entries.Stored.{stored-append}
+use Rattle.base_refusal.specs.Refusals.{no_refusal}
 
 -- entries more, of whatever they are
 pub run_more : (g : ℕ → List (List ℕ)) (l₀ l l' : List ℕ) (found m r i : ℕ)
@@ -62,7 +62,7 @@ run_rest g m (suc n) l h = elim (dec_lt n m) [
 ]
 
 -- what a step gives
-module _ (h : List ℕ) (accepted : refusal_of h ≡ Accepted) (c : ℕ) (below : c < cards_in h) (left : Bool) (layout i row : ℕ)
+module _ (h : List ℕ) (accepted : refusal_of h ≡ no_refusal) (c : ℕ) (below : c < cards_in h) (left : Bool) (layout i row : ℕ)
     (is : layout ≡ layout_of (card_at h c)) (found : row ≡ row_at layout (get_or (walked left layout) i 0)) where
   abbrev at : ℕ
   at = get_or (walked left (layout_of (card_at h c))) i 0

@@ -1,22 +1,31 @@
--- One card more is counted among those with a point of the variation grid.
-use Prim.Native.Nat.{ℕ, ◌+◌, ◌≤◌}
-use mathlib.Core.Path.{◌≡◌, refl}
+-- The notes that tell of a point of the variation grid are as many as the cards that have one.
+use Prim.Native.Nat.{ℕ, zero, suc, ◌+◌, ◌≤◌, ◌<◌}
+use native.Mathlib.Omega.{arith}
+use native.Mathlib.Numerals.{add-one}
+use mathlib.Core.Path.{◌≡◌, refl, sym, ap, ap₂, ◌∙◌}
+use mathlib.Core.Bool.{Bool, true, false, cond}
 use mathlib.Core.List.{List}
 use lib.Dec.{eqb}
+use lib.ListN.{length, get_or, take}
+use Rattle.std.specs.List.{filter}
+use Rattle.std.proofs.lemmas.List.Filters.{length-filter_more}
 use Rattle.base_lists.specs.Count.{bit, count}
-use Rattle.base_lists.proofs.Counting.{count_le, count_more}
 use Rattle.header_check.specs.forms.Cards.{card_at, layout_of}
+use Rattle.header_check.specs.packed.Noted.{layout_in}
 use Rattle.tie_check.specs.packed.Totals.{points_to}
 
-pub no_points : (h : List ℕ) → 0 ≡ points_to h 0
-unfolding points_to count
-no_points h = refl
+as_bit : (b : Bool) → cond b 1 0 ≡ bit b
+as_bit true = refl
+as_bit false = refl
 
-pub points-few : (h : List ℕ) (c : ℕ) → points_to h c ≤ c
-unfolding points_to
-points-few h c = count_le (λ i. eqb (layout_of (card_at h i)) 13) c
-
-pub points_more : (h : List ℕ) (c found k b : ℕ) → found ≡ points_to h c → k ≡ layout_of (card_at h c) → b ≡ bit (eqb k 13)
-    → found + b ≡ points_to h (c + 1)
-unfolding points_to
-points_more h c found k b e q r = rw (count_more (λ i. eqb (layout_of (card_at h i)) 13) c, e, r, q)
+module _ (h cards : List ℕ) where
+  pub points_noted : (n : ℕ) → n ≤ length cards → ((c : ℕ) → c < n → layout_in (get_or cards c 0) ≡ layout_of (card_at h c))
+      → length (filter (λ note. eqb (layout_in note) 13) (take n cards)) ≡ points_to h n
+  unfolding points_to count
+  points_noted zero room told = refl
+  points_noted (suc n) room told =
+      let p : ℕ → Bool = λ note. eqb (layout_in note) 13 in
+      ap (λ m. length (filter p (take m cards))) (sym (add-one n))
+      ∙ length-filter_more p cards n 0 (omega arith)
+      ∙ ap₂ (λ (x y : ℕ). x + y) (points_noted n (omega arith) (λ c l. told c (omega arith)))
+      (as_bit (p (get_or cards n 0)) ∙ ap (λ k. bit (eqb k 13)) (told n (omega arith)))

@@ -13,8 +13,7 @@ use borrow.Author.Tests.{eqb-true}
 use Rattle.base_lists.specs.Parts.{alike}
 use Rattle.base_lists.proofs.Comparing.{alike_equal}
 use Rattle.base_refusal.specs.declared.Refusal.{Refusal}
-use Rattle.base_refusal.specs.Refusals.{refusal}
-use Rattle.header_check.specs.declared.Checked.TheVariants as checked
+use Rattle.base_refusal.specs.Refusals.{refusal, no_refusal}
 use Rattle.header_check.specs.Refusing.{refusal_of}
 use Rattle.header_check.specs.forms.Cards.{card_at, cards_in}
 use Rattle.tie_rules.specs.packed.Numbers.{packed}
@@ -34,51 +33,52 @@ use Rattle.header_laws.proofs.Accepted.{printed}
 use Rattle.tie_lookup.proofs.search.Defined.{definitions_counted, none-counted}
 use Rattle.tie_lookup.specs.declared.questions.Key.{Key}
 use Rattle.tie_lookup.specs.declared.questions.Defined.{Defined}
-use Rattle.tie_lookup.specs.declared.questions.Defined.TheVariants.{None, Only, Several, Refused}
+use Rattle.tie_lookup.specs.declared.questions.Defined.TheVariants.{None, Only, Several}
 use Rattle.tie_lookup.specs.questions.Questions.{is_class, key_offered, defined_by, answer_by, key_answer, offer_of, asked_at}
 use Rattle.tie_lookup.proofs.questions.Answering.{by_none, by_one, by_several}
 use Rattle.tie_lookup.proofs.questions.Offered.{offered_back, class-there}
+use Rattle.std.specs.Prelude.{Result, Ok, Err}
 
 -- which answer it is, and the numbers in it
-abbrev case : Defined → ℕ
-case None = 0
-case (Only c i) = 1
-case (Several n) = 2
-case (Refused r) = 3
+abbrev case : Result Defined Refusal → ℕ
+case (Ok None) = 0
+case (Ok (Only c i)) = 1
+case (Ok (Several n)) = 2
+case (Err r) = 3
 
-abbrev many : Defined → ℕ
-many None = 0
-many (Only c i) = 1
-many (Several n) = n
-many (Refused r) = 0
+abbrev many : Result Defined Refusal → ℕ
+many (Ok None) = 0
+many (Ok (Only c i)) = 1
+many (Ok (Several n)) = n
+many (Err r) = 0
 
-abbrev card : Defined → ℕ
-card None = 0
-card (Only c i) = c
-card (Several n) = 0
-card (Refused r) = 0
+abbrev card : Result Defined Refusal → ℕ
+card (Ok None) = 0
+card (Ok (Only c i)) = c
+card (Ok (Several n)) = 0
+card (Err r) = 0
 
-abbrev column : Defined → ℕ
-column None = 0
-column (Only c i) = i
-column (Several n) = 0
-column (Refused r) = 0
+abbrev column : Result Defined Refusal → ℕ
+column (Ok None) = 0
+column (Ok (Only c i)) = i
+column (Ok (Several n)) = 0
+column (Err r) = 0
 
 -- what the answer says of a key's definitions
-module _ (h : List ℕ) (class : ℕ) (key : List ℕ) (d : Defined) (is : d ≡ defined_by (definitions_of h class key) (place_of h class key)) where
+module _ (h : List ℕ) (class : ℕ) (key : List ℕ) (d : Result Defined Refusal) (is : d ≡ defined_by (definitions_of h class key) (place_of h class key)) where
   abbrev number : ℕ
   number = definitions_of h class key
 
-  none_is : number ≡ 0 → d ≡ None
+  none_is : number ≡ 0 → d ≡ (Ok None)
   none_is z = is ∙ by_none number (place_of h class key) z
 
-  one_is : number ≡ 1 → d ≡ Only (get_or (place_of h class key) 0 0) (get_or (place_of h class key) 1 0)
+  one_is : number ≡ 1 → d ≡ Ok (Only (get_or (place_of h class key) 0 0) (get_or (place_of h class key) 1 0))
   one_is o = is ∙ by_one number (place_of h class key) o
 
-  several_is : 2 ≤ number → d ≡ Several number
+  several_is : 2 ≤ number → d ≡ Ok (Several number)
   several_is l = is ∙ by_several number (place_of h class key) l
 
-  says_none : (d ≡ None) ↔ (number ≡ 0)
+  says_none : (d ≡ (Ok None)) ↔ (number ≡ 0)
   says_none = (
     λ e. elim (ℕ_discrete number 0) [
       | yes z ↦ z
@@ -90,7 +90,7 @@ module _ (h : List ℕ) (class : ℕ) (key : List ℕ) (d : Defined) (is : d ≡
     none_is,
   )
 
-  says_several : (n : ℕ) → (d ≡ Several n) ↔ ((2 ≤ n) × (number ≡ n))
+  says_several : (n : ℕ) → (d ≡ Ok (Several n)) ↔ ((2 ≤ n) × (number ≡ n))
   says_several n = (
     λ e. elim (ℕ_discrete number 0) [
       | yes z ↦ absurd (omega (arith, ap case (sym (none_is z) ∙ e)))
@@ -101,19 +101,19 @@ module _ (h : List ℕ) (class : ℕ) (key : List ℕ) (d : Defined) (is : d ≡
             (omega arith, q)
       ]
     ],
-    λ e. several_is (omega (arith, e.0, e.1)) ∙ ap Several e.1,
+    λ e. several_is (omega (arith, e.0, e.1)) ∙ ap (λ (m : ℕ). Ok (Several m)) e.1,
   )
 
-  says-only : (c i : ℕ) → (d ≡ Only c i) ↔ places.Only h class key c i
+  says-only : (c i : ℕ) → (d ≡ Ok (Only c i)) ↔ places.Only h class key c i
   says-only c i = (there, named c i)
     where
-      named : (c i : ℕ) → places.Only h class key c i → d ≡ Only c i
-      named c i o = one_is ((one_exactly h class key).1 (c, i, o)) ∙ ap (λ l. Only (get_or l 0 0) (get_or l 1 0)) (place_named h class key c i o)
+      named : (c i : ℕ) → places.Only h class key c i → d ≡ Ok (Only c i)
+      named c i o = one_is ((one_exactly h class key).1 (c, i, o)) ∙ ap (λ l. Ok (Only (get_or l 0 0) (get_or l 1 0))) (place_named h class key c i o)
 
       moved : {a b : ℕ} → places.Only h class key a b → a ≡ c → b ≡ i → places.Only h class key c i
       moved o p q = rw (← p, ← q) o
 
-      there : d ≡ Only c i → places.Only h class key c i
+      there : d ≡ Ok (Only c i) → places.Only h class key c i
       there e = elim (ℕ_discrete number 1) [
         | yes o ↦
             let r = (one_exactly h class key).0 o in
@@ -139,13 +139,13 @@ each_listed h class key several c i x =
 
 module _ (h : List ℕ) (class : ℕ) (key : Key) (text : List ℕ) where
   -- the header's refusal comes first
-  pub refused-first : (r : Refusal) → refusal_of h ≡ checked.Refused r → key_answer h class key text ≡ Refused r
+  pub refused-first : (r : Refusal) → refusal_of h ≡ Err r → key_answer h class key text ≡ Err r
   unfolding key_answer answer_by
   refused-first r e = rw e
 
-  module _ (accepted : refusal_of h ≡ checked.Accepted) where
+  module _ (accepted : refusal_of h ≡ no_refusal) where
     -- then 13 for a class that there is not
-    pub no_class : is_class class ≡ false → key_answer h class key text ≡ Refused (refusal 13 0 0)
+    pub no_class : is_class class ≡ false → key_answer h class key text ≡ Err (refusal 13 0 0)
     unfolding key_answer answer_by
     no_class e = rw (accepted, e)
 
@@ -159,34 +159,34 @@ module _ (h : List ℕ) (class : ℕ) (key : Key) (text : List ℕ) where
       answer_is = rw (accepted, there)
 
       -- none where there is none, the place of the only one, the number of several
-      pub none_exactly : (key_answer h class key text ≡ None) ↔ (definitions_of h class offered ≡ 0)
+      pub none_exactly : (key_answer h class key text ≡ (Ok None)) ↔ (definitions_of h class offered ≡ 0)
       none_exactly = says_none h class offered _ answer_is
 
-      pub only_exactly : (c i : ℕ) → (key_answer h class key text ≡ Only c i) ↔ places.Only h class offered c i
+      pub only_exactly : (c i : ℕ) → (key_answer h class key text ≡ Ok (Only c i)) ↔ places.Only h class offered c i
       only_exactly = says-only h class offered _ answer_is
 
-      pub several_exactly : (n : ℕ) → (key_answer h class key text ≡ Several n) ↔ ((2 ≤ n) × (definitions_of h class offered ≡ n))
+      pub several_exactly : (n : ℕ) → (key_answer h class key text ≡ Ok (Several n)) ↔ ((2 ≤ n) × (definitions_of h class offered ≡ n))
       several_exactly = says_several h class offered _ answer_is
 
       -- a key that no card can bear has none
-      unpacked : packed class offered ≡ 0 → key_answer h class key text ≡ None
+      unpacked : packed class offered ≡ 0 → key_answer h class key text ≡ (Ok None)
       unpacked e = none_exactly.1 (definitions_counted h (printed h accepted) class offered 0 (sym e) ∙ none-counted h)
 
-      pub never_borne : borne class offered ≡ false → key_answer h class key text ≡ None
+      pub never_borne : borne class offered ≡ false → key_answer h class key text ≡ (Ok None)
       never_borne e = unpacked (unborne_packed class offered e)
 
-      pub no_key : offered ≡ [] → key_answer h class key text ≡ None
+      pub no_key : offered ≡ [] → key_answer h class key text ≡ (Ok None)
       no_key e = unpacked (ap (packed class) e ∙ none-packed class)
 
 -- the key that a column of a card, counted from 0, refers to or defines, asked for
-module _ (h : List ℕ) (accepted : refusal_of h ≡ checked.Accepted) (c i : ℕ) (there : c < cards_in h) where
+module _ (h : List ℕ) (accepted : refusal_of h ≡ no_refusal) (c i : ℕ) (there : c < cards_in h) where
   abbrev class_of : Role → ℕ
   class_of r = class_at r (card_at h c) i
 
   abbrev key_of : Role → List ℕ
   key_of r = key_at r (card_at h c) i
 
-  abbrev pub asked : Role → Defined
+  abbrev pub asked : Role → Result Defined Refusal
   asked r = asked_at h c i r
 
   is-borne : (r : Role) → holds_key r (card_at h c) i ≡ true → borne (class_of r) (key_of r) ≡ true
@@ -206,18 +206,18 @@ module _ (h : List ℕ) (accepted : refusal_of h ≡ checked.Accepted) (c i : �
         ∙ ap (λ k. defined_by (definitions_of h (class_of r) k) (place_of h (class_of r) k)) (offered_back (class_of r) (key_of r) b)
 
     -- `Only` tells the place of the key's only definition
-    pub only_asked : (x y : ℕ) → (asked r ≡ Only x y) ↔ places.Only h (class_of r) (key_of r) x y
+    pub only_asked : (x y : ℕ) → (asked r ≡ Ok (Only x y)) ↔ places.Only h (class_of r) (key_of r) x y
     only_asked = says-only h (class_of r) (key_of r) (asked r) asked_is
 
     -- `Several` tells how many definitions there are, and kind 2 stands at each
-    pub several_asked : (n : ℕ) → asked r ≡ Several n
+    pub several_asked : (n : ℕ) → asked r ≡ Ok (Several n)
         → (definitions_of h (class_of r) (key_of r) ≡ n)
         × ((x y : ℕ) → Defines h (class_of r) (key_of r) x y → broken h (x - 1) y 2 ≡ true)
     several_asked n e =
         let w = (says_several h (class_of r) (key_of r) (asked r) asked_is n).0 e in
         (w.1, each_listed h (class_of r) (key_of r) (omega (arith, w.0, w.1)))
 
-    several_told : (2 ≤ definitions_of h (class_of r) (key_of r)) ↔ ((n : ℕ) × (asked r ≡ Several n))
+    several_told : (2 ≤ definitions_of h (class_of r) (key_of r)) ↔ ((n : ℕ) × (asked r ≡ Ok (Several n)))
     several_told = (
       λ l. (definitions_of h (class_of r) (key_of r), several_is h (class_of r) (key_of r) (asked r) asked_is l),
       λ e. let w = (says_several h (class_of r) (key_of r) (asked r) asked_is e.0).0 e.1 in omega (arith, w.0, w.1),
@@ -225,19 +225,19 @@ module _ (h : List ℕ) (accepted : refusal_of h ≡ checked.Accepted) (c i : �
 
   -- at a reference: `None` exactly where kind 1 stands there, `Several` where kind 3 does, `Only` where neither does
   module _ (held : holds_key refers (card_at h c) i ≡ true) where
-    pub undefined_asked : (broken h c i 1 ≡ true) ↔ (asked refers ≡ None)
+    pub undefined_asked : (broken h c i 1 ≡ true) ↔ (asked refers ≡ (Ok None))
     undefined_asked =
         let w = undefined_exactly h c i in
         let q = says_none h (class_of refers) (key_of refers) (asked refers) (asked_is refers held) in
         (λ e. q.1 (w.0 e).1, λ e. w.1 (held, q.0 e))
 
-    pub ambiguous_asked : (broken h c i 3 ≡ true) ↔ ((n : ℕ) × (asked refers ≡ Several n))
+    pub ambiguous_asked : (broken h c i 3 ≡ true) ↔ ((n : ℕ) × (asked refers ≡ Ok (Several n)))
     ambiguous_asked =
         let w = ambiguous_exactly h c i in
         let q = several_told refers held in
         (λ e. q.0 (w.0 e).1, λ e. w.1 (held, q.1 e))
 
-    pub settled_asked : ((broken h c i 1 ≡ false) × (broken h c i 3 ≡ false)) ↔ ((x : ℕ) × (y : ℕ) × (asked refers ≡ Only x y))
+    pub settled_asked : ((broken h c i 1 ≡ false) × (broken h c i 3 ≡ false)) ↔ ((x : ℕ) × (y : ℕ) × (asked refers ≡ Ok (Only x y)))
     settled_asked =
         let w = settled_exactly h c i held in
         let o = one_exactly h (class_of refers) (key_of refers) in (
@@ -247,13 +247,13 @@ module _ (h : List ℕ) (accepted : refusal_of h ≡ checked.Accepted) (c i : �
 
   -- at a definition: `Several` exactly where kind 2 stands there, `Only` with its own place where it does not
   module _ (held : holds_key defines (card_at h c) i ≡ true) where
-    pub redefined_asked : (broken h c i 2 ≡ true) ↔ ((n : ℕ) × (asked defines ≡ Several n))
+    pub redefined_asked : (broken h c i 2 ≡ true) ↔ ((n : ℕ) × (asked defines ≡ Ok (Several n)))
     redefined_asked =
         let w = redefined_exactly h c i in
         let q = several_told defines held in
         (λ e. q.0 (w.0 e).1, λ e. w.1 (held, q.1 e))
 
-    pub here_asked : 1 ≤ i → i ≤ 80 → (broken h c i 2 ≡ false) ↔ (asked defines ≡ Only (c + 1) i)
+    pub here_asked : 1 ≤ i → i ≤ 80 → (broken h c i 2 ≡ false) ↔ (asked defines ≡ Ok (Only (c + 1) i))
     here_asked a b =
         let w = place_of_definition h c i there a b held in
         let q = only_asked defines held (c + 1) i in (

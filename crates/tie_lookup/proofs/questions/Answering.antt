@@ -4,16 +4,13 @@ use native.Mathlib.Omega.{arith}
 use mathlib.Core.Path.{◌≡◌, sym, ap, ◌∙◌}
 use mathlib.Core.Bool.{Bool, true, false}
 use mathlib.Core.List.{List}
-use lib.IntN.{ℤ}
 use lib.ListN.{get_or}
 use borrow.Author.Tests.{eq-eqb, ne_eqb}
 use Rattle.base_lists.specs.Count.{first}
 use Rattle.base_refusal.specs.declared.Refusal.{Refusal}
-use Rattle.base_refusal.specs.Refusals.{refusal}
-use Rattle.header_check.specs.declared.Checked.TheVariants as checked
+use Rattle.base_refusal.specs.Refusals.{refusal, no_refusal}
 use Rattle.header_check.specs.Refusing.{refusal_of}
 use Rattle.tie_rules.specs.packed.Numbers.{packed}
-use Rattle.tie_rules.specs.Offered.{natural, whole_offered, pair_offered, text_offered}
 use Rattle.tie_rules.specs.Definitions.{places, column_of, defined_at, definitions_of, place_of}
 use Rattle.header_laws.proofs.Accepted.{printed}
 use Rattle.tie_lookup.specs.declared.search.Found.{Found}
@@ -21,9 +18,9 @@ use Rattle.tie_lookup.specs.packed.Borne.{only_of, found_of, found_over}
 use Rattle.tie_lookup.proofs.search.OnlyOne.{only-first}
 use Rattle.tie_lookup.proofs.search.Defined.{definitions_counted, only_defined}
 use Rattle.tie_lookup.specs.declared.questions.Key.{Key}
-use Rattle.tie_lookup.specs.declared.questions.Key.TheVariants.{Whole, Pair, Text}
-use Rattle.tie_lookup.specs.declared.questions.Defined.TheVariants.{None, Only, Several, Refused}
+use Rattle.tie_lookup.specs.declared.questions.Defined.TheVariants.{None, Only, Several}
 use Rattle.tie_lookup.specs.questions.Questions.{is_class, key_offered, defined_by, answer_by, key_answer}
+use Rattle.std.specs.Prelude.{Ok, Err}
 
 -- the numbers of what was found
 abbrev number_of : Found → ℕ
@@ -34,46 +31,30 @@ only_of_lem f = f.only
 
 -- what a number of definitions says
 module _ (n : ℕ) (at : List ℕ) where
-  pub by_none : n ≡ 0 → defined_by n at ≡ None
+  pub by_none : n ≡ 0 → defined_by n at ≡ (Ok None)
   unfolding defined_by
   by_none z = rw (eq-eqb n 0 z)
 
-  pub by_one : n ≡ 1 → defined_by n at ≡ Only (get_or at 0 0) (get_or at 1 0)
+  pub by_one : n ≡ 1 → defined_by n at ≡ Ok (Only (get_or at 0 0) (get_or at 1 0))
   unfolding defined_by
   by_one o = rw o
 
-  pub by_several : 2 ≤ n → defined_by n at ≡ Several n
+  pub by_several : 2 ≤ n → defined_by n at ≡ Ok (Several n)
   unfolding defined_by
   by_several l = rw (ne_eqb n 0 (λ e. omega arith), ne_eqb n 1 (λ e. omega arith))
-
--- an offered key as one number
-module _ (class : ℕ) (key : Key) (text : List ℕ) (r : ℕ) where
-  pub whole-number : (z y : ℤ) → key ≡ Whole z → y ≡ z → r ≡ packed class (whole_offered class (natural y))
-      → r ≡ packed class (key_offered class key text)
-  unfolding key_offered
-  whole-number z y e q h = rw (e, ← q) h
-
-  pub pair_number : (a b y z : ℤ) → key ≡ Pair a b → y ≡ a → z ≡ b
-      → r ≡ packed class (pair_offered class (natural y) (natural z)) → r ≡ packed class (key_offered class key text)
-  unfolding key_offered
-  pair_number a b y z e q w h = rw (e, ← q, ← w) h
-
-  pub text-number : key ≡ Text → r ≡ packed class (text_offered class text) → r ≡ packed class (key_offered class key text)
-  unfolding key_offered
-  text-number e h = rw e h
 
 module _ (h : List ℕ) (class : ℕ) (key : Key) (text : List ℕ) where
   abbrev offered : List ℕ
   offered = key_offered class key text
 
   -- a header that was refused
-  pub told-refused : (r : Refusal) → refusal_of h ≡ checked.Refused r → Refused r ≡ key_answer h class key text
+  pub told-refused : (r : Refusal) → refusal_of h ≡ Err r → Err r ≡ key_answer h class key text
   unfolding key_answer answer_by
   told-refused r e = rw e
 
-  module _ (accepted : refusal_of h ≡ checked.Accepted) (t : Bool) (is : t ≡ is_class class) where
+  module _ (accepted : refusal_of h ≡ no_refusal) (t : Bool) (is : t ≡ is_class class) where
     -- a class that there is not
-    pub told_no_class : t ≡ false → (r : Refusal) → r ≡ refusal 13 0 0 → Refused r ≡ key_answer h class key text
+    pub told_no_class : t ≡ false → (r : Refusal) → r ≡ refusal 13 0 0 → Err r ≡ key_answer h class key text
     unfolding key_answer answer_by
     told_no_class e r q = rw (accepted, ← is, e, q)
 
@@ -91,7 +72,7 @@ module _ (h : List ℕ) (class : ℕ) (key : Key) (text : List ℕ) where
       unfolding key_answer answer_by
       told = rw (accepted, ← is, there)
 
-      pub told_none : found.number ≡ 0 → None ≡ key_answer h class key text
+      pub told_none : found.number ≡ 0 → (Ok None) ≡ key_answer h class key text
       told_none z = sym (by_none (definitions_of h class offered) _ (sym times ∙ z)) ∙ told
 
       -- the place of the only one, counted from 1
@@ -102,13 +83,13 @@ module _ (h : List ℕ) (class : ℕ) (key : Key) (text : List ℕ) where
       pub some-place : found.number ≡ 1 → 1 ≤ found.only
       some-place o = omega (arith, only_one o)
 
-      pub told-only : found.number ≡ 1 → (p : ℕ) → p + 1 ≡ found.only → Only (p / 80 + 1) (p % 80 + 1) ≡ key_answer h class key text
+      pub told-only : found.number ≡ 1 → (p : ℕ) → p + 1 ≡ found.only → Ok (Only (p / 80 + 1) (p % 80 + 1)) ≡ key_answer h class key text
       unfolding place_of column_of
       told-only o p e =
           let f : p ≡ first (defined_at h class offered) (places h) = omega (arith, only_one o) in
           let one = sym times ∙ o in
           rw (f, ← told, by_one (definitions_of h class offered) (place_of h class offered) one, eq-eqb (definitions_of h class offered) 1 one)
 
-      pub told_several : (found.number ≡ 0 → ⊥) → (found.number ≡ 1 → ⊥) → Several found.number ≡ key_answer h class key text
+      pub told_several : (found.number ≡ 0 → ⊥) → (found.number ≡ 1 → ⊥) → Ok (Several found.number) ≡ key_answer h class key text
       told_several some other =
-          ap Several times ∙ sym (by_several (definitions_of h class offered) _ (omega (arith, times, some, other))) ∙ told
+          ap (λ (n : ℕ). Ok (Several n)) times ∙ sym (by_several (definitions_of h class offered) _ (omega (arith, times, some, other))) ∙ told

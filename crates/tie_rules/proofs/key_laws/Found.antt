@@ -14,11 +14,9 @@ use Rattle.base_digits.proofs.digits.Numbers.{value_below}
 use Rattle.base_digits.proofs.digits.Walk.{leading-take}
 use Rattle.base_digits.specs.signs.Signs.{signed_of}
 use Rattle.value_text.specs.text.Texts.{text_end, text_of, printable}
-use Rattle.value_number.specs.declared.number.Figures.{Figures}
-use Rattle.value_number.specs.declared.number.Figures.TheVariants.{Units, Not}
 use Rattle.value_number.specs.number.Reading.{point_of, figures_of, held_of, sign_of, number_of}
 use Rattle.base_value.specs.declared.Value.TheVariants.{Whole, Decimal}
-use Rattle.base_value.specs.declared.Reading.TheVariants.{Held, OutOfRange}
+use Rattle.base_value.specs.declared.Unread.TheVariants.{OutOfRange}
 use Rattle.value_field.specs.declared.spelling.Spelling.TheVariants as spelled
 use Rattle.value_field.proofs.spelling.Standing.{stretch_le}
 use Rattle.value_field.specs.spelling.Reading.{number_in, whole_reading, reading_of}
@@ -28,19 +26,21 @@ use Rattle.tie_rules.proofs.packing.Bits.{byte-printed, printable-take, printabl
 use Rattle.tie_rules.proofs.packing.Steps.{whole-class, end_of_text}
 use Rattle.tie_rules.specs.Ties.{Source, digit, whole, serial, waypoint, only, allotted, nothing, Role, ties, line_for}
 use Rattle.tie_rules.specs.Keys.{is_none, between, whole_key, whole_in, paired, in_part, key_in, class_at, key_at}
-use Rattle.tie_rules.proofs.keys.Table.{of_kind}
+use Rattle.tie_rules.proofs.keys.Table.{of_kind, rule, line_of_kind}
 use Rattle.tie_rules.specs.packed.Rows.{marked, unmarked}
 use Rattle.tie_rules.proofs.keys.Steps.{mark_tells}
-use Rattle.tie_rules.proofs.keys.Table.{rule, line_of_kind}
+use Rattle.std.specs.Prelude.{Ok, Err, Option, Some, None}
+use Rattle.value_number.specs.declared.number.Figures.{Figures}
+use Rattle.value_number.specs.number.Figures.{figures}
 
 -- a number that is there is below a bound
 abbrev pub Small : ℕ → List ℕ → Type 0
 Small bound [] = Unit {0}
 Small bound (n ∷ ns) = n < bound
 
-abbrev SmallFigures : ℕ → Figures → Type 0
-SmallFigures bound Not = Unit {0}
-SmallFigures bound (Units n places) = n < bound
+abbrev SmallFigures : ℕ → Option Figures → Type 0
+SmallFigures bound None = Unit {0}
+SmallFigures bound (Some f) = f.units < bound
 
 small_larger : (a b : ℕ) → a ≤ b → (key : List ℕ) → Small a key → Small b key
 small_larger a b h [] l = tt
@@ -60,7 +60,7 @@ small_figures t = go (behind t)
         let p : 10 ^ length (leading t) ≤ 10 ^ length t = pow-le-pow_right (omega arith) (leading_short t) in
         omega (arith, value_below 0 t)
 
-    counted : (b : Bool) → SmallFigures (10 ^ length t) (cond b Not (Units (capped (value_from 0 (leading t ++ []))) 0))
+    counted : (b : Bool) → SmallFigures (10 ^ length t) (cond b None (Some (figures (capped (value_from 0 (leading t ++ []))) 0)))
     counted true = tt
     counted false = value
 
@@ -68,21 +68,21 @@ small_figures t = go (behind t)
     go [] = counted (eqb (length (leading t) + 0) 0)
     go (c ∷ r) = tt
 
-small_signed : (bound : ℕ) (minus : Bool) (n : ℕ) → n < bound → Small bound (whole_key (Held (Whole (signed_of minus n))))
+small_signed : (bound : ℕ) (minus : Bool) (n : ℕ) → n < bound → Small bound (whole_key (Ok (Whole (signed_of minus n))))
 unfolding whole_key signed_of
 small_signed bound true zero h = h
 small_signed bound true (suc n) h = tt
 small_signed bound false n h = h
 
-small-held : (bound : ℕ) (minus : Bool) (f : Figures) → SmallFigures bound f
+small-held : (bound : ℕ) (minus : Bool) (f : Option Figures) → SmallFigures bound f
     → Small bound (whole_key (whole_reading (held_of minus f)))
 unfolding whole_key whole_reading held_of
-small-held bound minus Not h = tt
-small-held bound minus (Units n places) h = go (ltb n limit)
+small-held bound minus None h = tt
+small-held bound minus (Some f) h = go (ltb f.units limit)
   where
     go : (b : Bool) → Small bound (whole_key (whole_reading
-        (cond b (Held (Decimal (record { units = signed_of minus n; places = places }))) OutOfRange)))
-    go true = small_signed bound minus n h
+        (cond b (Ok (Decimal (record { units = signed_of minus f.units; places = f.places }))) (Err OutOfRange))))
+    go true = small_signed bound minus f.units h
     go false = tt
 
 -- a whole number in some columns is below their power of ten

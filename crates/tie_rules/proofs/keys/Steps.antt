@@ -6,15 +6,14 @@ use mathlib.Core.Path.{◌≡◌, refl, sym, ap, ◌∙◌}
 use mathlib.Core.List.{List, [], ◌∷◌}
 use mathlib.Core.Bool.{Bool, true, false}
 use lib.IntN.{ℤ, pos, negsuc}
-use lib.ListN.{length, get_or, take, drop, drop_of_length-le, length-drop}
+use lib.ListN.{length, take, drop, drop_of_length-le, length-drop}
 use lib.Seq.{take-nil, take_all}
 use borrow.Author.Tests.{le-leb, lt-leb}
 use Rattle.base_digits.proofs.digits.Parts.{rest_part}
 use Rattle.value_number.specs.number.Reading.{number_of}
 use Rattle.value_number.specs.packed.Shapes.{sized, size_of}
 use Rattle.base_value.specs.declared.Value.TheVariants.{Absent, Whole, Decimal, Angle, Date, Text}
-use Rattle.base_value.specs.declared.Reading.{Reading}
-use Rattle.base_value.specs.declared.Reading.TheVariants.{Held, Malformed, OutOfRange}
+use Rattle.base_value.specs.declared.Unread.TheVariants.{Malformed, OutOfRange}
 use Rattle.value_field.specs.spelling.Reading.{number_in, whole_reading, reading_of}
 use Rattle.value_text.specs.text.Texts.{text_of}
 use Rattle.header_check.specs.forms.Cards.{byte_in}
@@ -25,6 +24,9 @@ use Rattle.tie_rules.specs.Ties.{Source, digit, whole, serial, waypoint, only, a
 use Rattle.tie_rules.proofs.columns.Picked.{by_part}
 use Rattle.tie_rules.specs.Keys.{is_none, between, whole_key, whole_in, paired, in_part}
 use Rattle.tie_rules.specs.packed.Rows.{part_at, class_in, source_by, source_in, found_by, found_in, vessel_by, marked, mark_of, unmarked}
+use Rattle.std.specs.Prelude.{Result, Ok, Err}
+use Rattle.base_value.specs.declared.Unread.{Unread}
+use Rattle.base_value.specs.declared.Value.{Value}
 
 -- columns of a card, from being the one before the first
 module _ (s : List ℕ) (first last from : ℕ) (is : from ≡ first - 1) where
@@ -44,18 +46,7 @@ module _ (s : List ℕ) (first last from : ℕ) (is : from ≡ first - 1) where
   unfolding between
   of_width = rw (← is)
 
--- the byte in a column
-pub byte-is : (s : List ℕ) (column from byte : ℕ) → from ≡ column - 1 → byte ≡ get_or s from 0 → byte ≡ byte_in s column
-unfolding byte_in
-byte-is s column from byte is e = e ∙ ap (λ i. get_or s i 0) is
-
-pub digit-none : (s : List ℕ) (column from byte : ℕ) → from ≡ column - 1 → byte ≡ get_or s from 0 → byte < 48
-    → 0 ≡ byte_in s column - 48
-digit-none s column from byte is e l = omega (arith, byte-is s column from byte is e)
-
-pub digit-some : (s : List ℕ) (column from byte : ℕ) → from ≡ column - 1 → byte ≡ get_or s from 0 → byte - 48 ≡ byte_in s column - 48
-digit-some s column from byte is e = omega (arith, byte-is s column from byte is e)
-
+-- the vessel digit in a card's code
 pub vessel_digit : (k : ℕ) (s : List ℕ) (b : Bool) (n : ℕ) → b ≡ has_vessel k → b ≡ true → n ≡ byte_in s 4 - 48 → n ≡ vessel_by k s
 unfolding vessel_by
 vessel_digit k s b n e q h = rw (← e, q) h
@@ -66,37 +57,37 @@ vessel_none k s b e q = rw (← e, q)
 
 -- a size tells the number
 module _ (size : ℕ) where
-  small-mark : (z : ℤ) → size ≡ sized z → size < 4 → 0 ≡ marked (whole_key (Held (Whole z)))
+  small-mark : (z : ℤ) → size ≡ sized z → size < 4 → 0 ≡ marked (whole_key (Ok (Whole z)))
   unfolding marked whole_key
   small-mark (pos m) e h = absurd (omega arith)
   small-mark (negsuc m) e h = refl
 
-  pub no_mark : (n : Reading) → size ≡ size_of n → size < 4 → 0 ≡ mark_of n
+  pub no_mark : (n : Result Value Unread) → size ≡ size_of n → size < 4 → 0 ≡ mark_of n
   unfolding mark_of marked whole_key whole_reading
-  no_mark (Held Absent) e h = refl
-  no_mark (Held (Whole z)) e h = small-mark z e h
-  no_mark (Held (Decimal d)) e h = small-mark d.units e h
-  no_mark (Held (Angle z)) e h = refl
-  no_mark (Held (Date d)) e h = refl
-  no_mark (Held (Text c)) e h = refl
-  no_mark Malformed e h = refl
-  no_mark OutOfRange e h = refl
+  no_mark (Ok Absent) e h = refl
+  no_mark (Ok (Whole z)) e h = small-mark z e h
+  no_mark (Ok (Decimal d)) e h = small-mark d.units e h
+  no_mark (Ok (Angle z)) e h = refl
+  no_mark (Ok (Date d)) e h = refl
+  no_mark (Ok (Text c)) e h = refl
+  no_mark (Err Malformed) e h = refl
+  no_mark (Err OutOfRange) e h = refl
 
-  large_mark : (z : ℤ) → size ≡ sized z → 4 ≤ size → size - 4 + 1 ≡ marked (whole_key (Held (Whole z)))
+  large_mark : (z : ℤ) → size ≡ sized z → 4 ≤ size → size - 4 + 1 ≡ marked (whole_key (Ok (Whole z)))
   unfolding marked whole_key
   large_mark (pos m) e h = omega arith
   large_mark (negsuc m) e h = absurd (omega arith)
 
-  pub a_mark : (n : Reading) → size ≡ size_of n → 4 ≤ size → size - 4 + 1 ≡ mark_of n
+  pub a_mark : (n : Result Value Unread) → size ≡ size_of n → 4 ≤ size → size - 4 + 1 ≡ mark_of n
   unfolding mark_of marked whole_key whole_reading
-  a_mark (Held Absent) e h = absurd (omega arith)
-  a_mark (Held (Whole z)) e h = large_mark z e h
-  a_mark (Held (Decimal d)) e h = large_mark d.units e h
-  a_mark (Held (Angle z)) e h = absurd (omega arith)
-  a_mark (Held (Date d)) e h = absurd (omega arith)
-  a_mark (Held (Text c)) e h = absurd (omega arith)
-  a_mark Malformed e h = absurd (omega arith)
-  a_mark OutOfRange e h = absurd (omega arith)
+  a_mark (Ok Absent) e h = absurd (omega arith)
+  a_mark (Ok (Whole z)) e h = large_mark z e h
+  a_mark (Ok (Decimal d)) e h = large_mark d.units e h
+  a_mark (Ok (Angle z)) e h = absurd (omega arith)
+  a_mark (Ok (Date d)) e h = absurd (omega arith)
+  a_mark (Ok (Text c)) e h = absurd (omega arith)
+  a_mark (Err Malformed) e h = absurd (omega arith)
+  a_mark (Err OutOfRange) e h = absurd (omega arith)
 
 pub whole-marked : (s : List ℕ) (first last : ℕ) (t u : List ℕ) (r : ℕ) → t ≡ between first last s → u ≡ text_of t
     → r ≡ mark_of (number_of false u) → r ≡ marked (whole_in first last s)
@@ -104,17 +95,17 @@ unfolding whole_in reading_of number_in mark_of
 whole-marked s first last t u r e f h = h ∙ ap (λ x. mark_of (number_of false x)) (f ∙ ap text_of e)
 
 -- a mark tells the number
-pub mark_tells : (r : Reading) → whole_key r ≡ unmarked (marked (whole_key r))
+pub mark_tells : (r : Result Value Unread) → whole_key r ≡ unmarked (marked (whole_key r))
 unfolding whole_key marked
-mark_tells (Held (Whole (pos n))) = refl
-mark_tells (Held (Whole (negsuc n))) = refl
-mark_tells (Held Absent) = refl
-mark_tells (Held (Decimal d)) = refl
-mark_tells (Held (Angle z)) = refl
-mark_tells (Held (Date d)) = refl
-mark_tells (Held (Text c)) = refl
-mark_tells Malformed = refl
-mark_tells OutOfRange = refl
+mark_tells (Ok (Whole (pos n))) = refl
+mark_tells (Ok (Whole (negsuc n))) = refl
+mark_tells (Ok Absent) = refl
+mark_tells (Ok (Decimal d)) = refl
+mark_tells (Ok (Angle z)) = refl
+mark_tells (Ok (Date d)) = refl
+mark_tells (Ok (Text c)) = refl
+mark_tells (Err Malformed) = refl
+mark_tells (Err OutOfRange) = refl
 
 module _ (s : List ℕ) (first last m : ℕ) (is : m ≡ marked (whole_in first last s)) where
   told : whole_in first last s ≡ unmarked m

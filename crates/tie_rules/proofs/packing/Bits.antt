@@ -3,11 +3,12 @@ use Prim.Native.Nat.{ℕ, zero, suc, ◌+◌, ◌*◌, ◌-◌, ◌^◌, ◌≤�
 use native.Mathlib.Nat.{pow-succ', le_of_suc-le-suc}
 use native.Mathlib.Omega.{arith}
 use mathlib.Core.Path.{◌≡◌, refl, sym, ap, ap₂, ◌∙◌}
-use mathlib.Core.List.{List, [], ◌∷◌}
+use mathlib.Core.List.{List, [], ◌∷◌, ◌++◌}
 use mathlib.Core.Bool.{Bool, true, false, cond}
 use lib.Dec.{leb}
-use lib.ListN.{length, get_or, take, drop, drop_of_length-le, length-drop}
-use lib.Seq.{drop-cons}
+use lib.ListN.{length, get_or, take, drop, drop_of_length-le, length-drop, length-take, length-append}
+use lib.Seq.{drop-cons, get_or-take, get_or-append_seam, take-append_seam}
+use Rattle.std.proofs.lemmas.List.{take-take}
 use borrow.Author.Tests.{leb-true, le-leb}
 use Rattle.base_digits.proofs.digits.Bools.{and_left, and_right, and_both}
 use Rattle.value_text.specs.text.Texts.{printable}
@@ -89,6 +90,23 @@ printed_more i s z l a b h =
     let q : suc (i - 1) ≡ i = omega arith in
     ap printable (drop-cons s (i - 1) 0 (omega arith))
     ∙ and_both _ _ (le-leb 32 _ a) (and_both _ _ (le-leb _ 126 b) (ap (λ k. printable (drop k s)) q ∙ h))
+
+-- a front of a text with its last byte: the front before it, and where the byte stands
+module _ (t front rest : List ℕ) (b : ℕ) (one : front ≡ rest ++ (b ∷ [])) (is : take (length front) t ≡ front) where
+  pub one_more : length front ≡ length rest + 1
+  one_more = ap length one ∙ length-append rest (b ∷ [])
+
+  pub inside : length front ≤ length t
+  inside = omega (arith, ap length is, length-take (length front) t)
+
+  pub last_byte : get_or t (length front - 1) 0 ≡ b
+  last_byte =
+      let n : length front - 1 ≡ length rest = omega (arith, one_more) in
+      sym (get_or-take (length front) t (length front - 1) 0 (omega (arith, one_more))) ∙ rw (is, n) (ap (λ l. get_or l (length rest) 0) one ∙ get_or-append_seam rest b [] 0)
+
+  pub front_before : take (length rest) t ≡ rest
+  front_before =
+      sym (take-take (length rest) (length front) t (omega (arith, one_more))) ∙ rw (is, one) (take-append_seam rest (b ∷ []))
 
 -- the walk from the back: where it begins, the room for one byte more, a byte that stops it, and where it ends
 pub bits_begin : (s : List ℕ) → 0 ≡ bits_of (drop (length s) s)

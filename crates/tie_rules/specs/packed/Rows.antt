@@ -1,8 +1,7 @@
 -- The table of ties as the code holds it: a row for each column of a layout that can carry a tie, one number whose hexadecimal
 -- digits are its parts. No promise to a caller cites this.
-use Rattle.std.specs.Prelude.{ℕ, zero, suc, ◌+◌, ◌*◌, ◌-◌, ◌/◌, ◌%◌, List, [], ◌∷◌, map, Bool, cond, eqb, ltb, length, get_or}
+use Rattle.std.specs.Prelude.{ℕ, zero, suc, ◌+◌, ◌*◌, ◌-◌, ◌/◌, ◌%◌, List, [], ◌∷◌, map, Bool, cond, eqb, ltb, length, get_or, Result}
 use Rattle.base_lists.specs.Count.{bit, first as place}
-use Rattle.base_value.specs.declared.Reading.{Reading}
 use Rattle.value_field.specs.spelling.Reading.{whole_reading}
 use Rattle.header_check.specs.forms.Cards.{byte_in}
 use Rattle.value_text.specs.text.Texts.{text_of}
@@ -28,6 +27,8 @@ use Rattle.tie_rules.specs.Ties.{
 use Rattle.tie_rules.specs.Keys.{between, whole_key, whole_in, paired, in_part, key_in, no_vessel}
 use Rattle.tie_rules.specs.Offered.{text_class, pair_class, whole_offered}
 use Rattle.tie_rules.specs.packed.Numbers.{packed}
+use Rattle.base_value.specs.declared.Unread.{Unread}
+use Rattle.base_value.specs.declared.Value.{Value}
 
 -- a part of a number's range as one number: its least and its greatest number, in four digits each
 abbrev pub part_of : ℕ → ℕ → ℕ
@@ -139,7 +140,7 @@ marked [] = 0
 marked (n ∷ ns) = suc n
 
 -- the same of a number that was read
-unfoldable pub mark_of : Reading → ℕ
+unfoldable pub mark_of : Result Value Unread → ℕ
 mark_of n = marked (whole_key (whole_reading n))
 
 -- and back

@@ -16,16 +16,17 @@ use Rattle.base_digits.proofs.digits.Bools.{and_left, and_right}
 use Rattle.base_digits.proofs.digits.Blank.{blank_at}
 use Rattle.value_number.specs.number.Reading.{point_of, figures_of}
 use Rattle.base_digits.specs.signs.Signs.{signed_of}
-use Rattle.value_number.specs.declared.number.Figures.{Figures}
-use Rattle.value_number.specs.declared.number.Figures.TheVariants.{Units, Not}
 use Rattle.value_coordinate.specs.axes.Axes.{bound_of, letter_of, is_letter}
 use Rattle.value_coordinate.specs.angle.Angles.{part, padded_of, is_number, units_of, parts_of, is_spelled, arc_of, angled_of, angle_of}
 use Rattle.value_coordinate.specs.declared.axes.Axis.{Axis}
 use Rattle.value_coordinate.specs.declared.angle.Parts.{Parts}
 use Rattle.base_value.specs.declared.Value.TheVariants.{Absent, Angle}
-use Rattle.base_value.specs.declared.Reading.TheVariants.{Held, Malformed, OutOfRange}
+use Rattle.base_value.specs.declared.Unread.TheVariants.{Malformed, OutOfRange}
+use Rattle.std.specs.Prelude.{Ok, Err, Option, Some, None}
+use Rattle.value_number.specs.declared.number.Figures.{Figures}
+use Rattle.value_number.specs.number.Figures.{figures}
 
-pub same_parts : {d e m n s r t u : Figures} → d ≡ e → m ≡ n → s ≡ r → t ≡ u
+pub same_parts : {d e m n s r t u : Option Figures} → d ≡ e → m ≡ n → s ≡ r → t ≡ u
     → ◌≡◌ {A = Parts} (record { degrees = d; minutes = m; seconds = s; thousandths = t }) (record { degrees = e; minutes = n; seconds = r; thousandths = u })
 same_parts a b c d = λ i. record { degrees = a i; minutes = b i; seconds = c i; thousandths = d i }
 
@@ -40,7 +41,7 @@ three t h = go (behind t)
         let p : 10 ^ length (leading t) ≤ 10 ^ 3 = pow-le-pow_right (lit< tt) k in
         omega (arith, value_below 0 t)
 
-    none-or-small : (b : Bool) → units_of (cond b Not (Units (capped (value_from 0 (leading t ++ []))) 0)) < 1000
+    none-or-small : (b : Bool) → units_of (cond b None (Some (figures (capped (value_from 0 (leading t ++ []))) 0))) < 1000
     none-or-small true = omega arith
     none-or-small false = rw append-nil (let v : value_from 0 (leading t) < 1000 = small in omega arith)
 
@@ -57,33 +58,33 @@ parts-small s = (
 
 -- an angle on its axis
 module _ (a : Axis) (minus : Bool) (p : Parts) where
-  pub minutes_outside : 60 ≤ units_of p.minutes → OutOfRange ≡ angled_of a minus p
+  pub minutes_outside : 60 ≤ units_of p.minutes → (Err OutOfRange) ≡ angled_of a minus p
   unfolding angled_of
   minutes_outside h = rw (le-ltb (units_of p.minutes) 60 h)
 
   module _ (within : units_of p.minutes < 60) where
-    pub seconds_outside : 60 ≤ units_of p.seconds → OutOfRange ≡ angled_of a minus p
+    pub seconds_outside : 60 ≤ units_of p.seconds → (Err OutOfRange) ≡ angled_of a minus p
     unfolding angled_of
     seconds_outside h = rw (lt-ltb (units_of p.minutes) 60 within, le-ltb (units_of p.seconds) 60 h)
 
     module _ (too : units_of p.seconds < 60) (n : ℕ) (e : n ≡ arc_of p) (b : ℕ) (f : b ≡ bound_of a) where
-      pub arc_outside : b < n → OutOfRange ≡ angled_of a minus p
+      pub arc_outside : b < n → (Err OutOfRange) ≡ angled_of a minus p
       unfolding angled_of
       arc_outside h =
           rw (← e, ← f, lt-ltb (units_of p.minutes) 60 within, lt-ltb (units_of p.seconds) 60 too, lt-leb n b h)
 
-      pub arc_within : n ≤ b → (z : ℤ) → z ≡ signed_of minus n → Held (Angle z) ≡ angled_of a minus p
+      pub arc_within : n ≤ b → (z : ℤ) → z ≡ signed_of minus n → Ok (Angle z) ≡ angled_of a minus p
       unfolding angled_of
       arc_within h z q =
           rw (← e, ← f, lt-ltb (units_of p.minutes) 60 within, lt-ltb (units_of p.seconds) 60 too, le-leb n b h, q)
 
 module _ (a : Axis) (s : List ℕ) where
-  pub angle_width : (length s ≡ 12 → ⊥) → cond (eqb (blanks s) (length s)) (Held Absent) Malformed ≡ angle_of a s
+  pub angle_width : (length s ≡ 12 → ⊥) → cond (eqb (blanks s) (length s)) (Ok Absent) (Err Malformed) ≡ angle_of a s
   unfolding angle_of
   angle_width h = rw (ne_eqb (length s) 12 h)
 
   module _ (wide : length s ≡ 12) (p : Parts) (q : p ≡ parts_of s) (b : Bool) (r : b ≡ is_spelled a p (get_or s 7 0) (get_or s 11 0)) where
-    pub angle_other : b ≡ false → cond (eqb (blanks s) (length s)) (Held Absent) Malformed ≡ angle_of a s
+    pub angle_other : b ≡ false → cond (eqb (blanks s) (length s)) (Ok Absent) (Err Malformed) ≡ angle_of a s
     unfolding angle_of
     angle_other h = rw (eq-eqb (length s) 12 wide, ← q, ← r, h)
 

@@ -9,18 +9,18 @@ use lib.Dec.{eqb, leb, ltb}
 use lib.IntN.{ℤ, nat_abs}
 use Rattle.base_digits.specs.digits.Figures.{blanks}
 use Rattle.base_digits.specs.digits.Columns.{agreed}
-use Rattle.base_digits.specs.signs.Signs.{signed_of}
+use Rattle.base_digits.specs.signs.Signs.{signed_of, is_minus}
 use Rattle.value_number.proofs.number_entry.Agreed.{signed-size}
-use Rattle.base_digits.specs.signs.Signs.{is_minus}
 use Rattle.value_number.specs.number_entry.Spelling.{plain}
 use Rattle.value_coordinate.specs.axes.Axes.{bound_of, letter_of}
 use Rattle.value_coordinate.specs.angle.Angles.{units_of, parts_of, is_spelled, arc_of, angled_of, angle_of}
 use Rattle.value_coordinate.specs.coordinate_entry.Plotting.{figures_in, angle_in}
 use Rattle.value_coordinate.specs.declared.axes.Axis.{Axis}
 use Rattle.base_value.specs.declared.Value.TheVariants.{Absent, Angle}
-use Rattle.base_value.specs.declared.Reading.TheVariants.{Held, Malformed, OutOfRange}
+use Rattle.base_value.specs.declared.Unread.TheVariants.{Malformed, OutOfRange}
+use Rattle.std.specs.Prelude.{Ok, Err}
 
-pub angle_agreed : (a : Axis) (s : List ℕ) (z : ℤ) → angle_of a s ≡ Held (Angle z) → (t : List ℕ) × (angle_in a (length s) z ≡ agreed t)
+pub angle_agreed : (a : Axis) (s : List ℕ) (z : ℤ) → angle_of a s ≡ Ok (Angle z) → (t : List ℕ) × (angle_in a (length s) z ≡ agreed t)
 unfolding angle_of angled_of angle_in
 angle_agreed a s z h =
     go (eqb (blanks s) (length s)) (eqb (length s) 12) refl (is_spelled a (parts_of s) (get_or s 7 0) (get_or s 11 0))
@@ -38,7 +38,7 @@ angle_agreed a s z h =
     room w f e = let q : nat_abs z ≡ n = ap nat_abs (sym e) ∙ signed-size minus n in rw (ap (λ k. leb k (bound_of a)) q ∙ f, w)
 
     go : (b c : Bool) → eqb (length s) 12 ≡ c → (d e f : Bool) → leb n (bound_of a) ≡ f
-        → cond b (Held Absent) (cond (c && d) (cond (e && f) (Held (Angle (signed_of minus n))) OutOfRange) Malformed) ≡ Held (Angle z)
+        → cond b (Ok Absent) (cond (c && d) (cond (e && f) (Ok (Angle (signed_of minus n))) (Err OutOfRange)) (Err Malformed)) ≡ Ok (Angle z)
         → (t : List ℕ) × (angle_in a (length s) z ≡ agreed t)
     go true c p d e f q r = absurd (let x : ◌≡◌ {A = ℕ} 0 1 = cc in omega arith)
     go false false p d e f q r = absurd (let x : ◌≡◌ {A = ℕ} 0 1 = cc in omega arith)

@@ -8,7 +8,7 @@ use lib.ListN.{length, get_or}
 use lib.Dec.{eqb, leb}
 use lib.IntN.{ℤ, nat_abs}
 use borrow.Author.Tests.{eq-eqb, ne_eqb, lt-ltb, leb-true, eqb-true}
-use Rattle.base_refusal.specs.declared.Written.TheVariants.{OutOfRange as Outside, NoRoom}
+use Rattle.base_refusal.specs.declared.Unwritten.TheVariants.{OutOfRange as Outside, NoRoom}
 use Rattle.base_digits.specs.digits.Figures.{blanks}
 use Rattle.base_digits.specs.digits.Digits.{digits}
 use Rattle.base_digits.specs.digits.Columns.{agreed, refused}
@@ -17,18 +17,18 @@ use Rattle.value_number.specs.number.Reading.{figures_of}
 use Rattle.base_digits.specs.signs.Signs.{is_minus}
 use Rattle.value_number.specs.number_entry.Spelling.{plain}
 use Rattle.value_number.proofs.number_entry.Back.{sign_back}
-use Rattle.value_number.specs.declared.number.Figures.TheVariants.{Units}
 use Rattle.value_coordinate.specs.axes.Axes.{bound_of, letter_of}
 use Rattle.value_coordinate.specs.angle.Angles.{part, padded_of, parts_of, is_spelled, angled_of, angle_of}
 use Rattle.value_coordinate.specs.coordinate_entry.Plotting.{figures_in, angle_in}
 use Rattle.value_coordinate.specs.declared.axes.Axis.{Axis}
 use Rattle.value_coordinate.specs.declared.angle.Parts.{Parts}
 use Rattle.base_value.specs.declared.Value.TheVariants.{Angle}
-use Rattle.base_value.specs.declared.Reading.TheVariants.{Held}
 use Rattle.value_coordinate.proofs.angle.Reading.{same_parts}
 use Rattle.value_coordinate.proofs.coordinate_entry.ArcFilled.{figures_digits, padded-digits}
 use Rattle.base_digits.proofs.digits.Blank.{blank_at}
 use Rattle.value_coordinate.proofs.axes.Letters.{letter_is, letter_minus, bound_most}
+use Rattle.std.specs.Prelude.{Ok, Some}
+use Rattle.value_number.specs.number.Figures.{figures}
 
 -- twelve columns by their parts
 abbrev laid : ℕ → ℕ → ℕ → List ℕ
@@ -64,10 +64,10 @@ laid_rest x m l = (refl, refl, refl)
 abbrev parts_in : ℕ → Parts
 parts_in n =
     record {
-      degrees = Units (n / 3600000) 0;
-      minutes = Units (n / 60000 % 60) 0;
-      seconds = Units (n % 60000 / 1000) 0;
-      thousandths = Units (n % 1000) 0;
+      degrees = Some (figures (n / 3600000) 0);
+      minutes = Some (figures (n / 60000 % 60) 0);
+      seconds = Some (figures (n % 60000 / 1000) 0);
+      thousandths = Some (figures (n % 1000) 0);
     }
 
 -- the digits of an angle's figures are those of its parts
@@ -96,10 +96,10 @@ parts_back : (n l : ℕ) → n ≤ 648000000 → parts_of (laid (figures_in n / 
 unfolding parts_of joined
 parts_back n l h =
     same_parts
-    (ap padded_of (laid_degrees x m l) ∙ padded-digits 3 (x / 10 ^ 4) (omega arith) (omega arith) (omega arith) ∙ ap (λ v. Units v 0) (degrees_of d i r low few less))
-    (ap padded_of (laid_minutes x m l) ∙ padded-digits 2 (x / 10 ^ 2) (omega arith) (omega arith) (omega arith) ∙ ap (λ v. Units v 0) (minutes_of d i r low few less))
-    (ap padded_of (laid_seconds x m l) ∙ padded-digits 2 x (omega arith) (omega arith) (omega arith) ∙ ap (λ v. Units v 0) (seconds_of d i r low few less))
-    (ap (figures_of false) (laid_thousandths x m l) ∙ figures_digits 3 m (omega arith) (omega arith) (omega arith) ∙ ap (λ v. Units v 0) (thousandths_of d i r low few less ∙ omega arith))
+    (ap padded_of (laid_degrees x m l) ∙ padded-digits 3 (x / 10 ^ 4) (omega arith) (omega arith) (omega arith) ∙ ap (λ v. Some (figures v 0)) (degrees_of d i r low few less))
+    (ap padded_of (laid_minutes x m l) ∙ padded-digits 2 (x / 10 ^ 2) (omega arith) (omega arith) (omega arith) ∙ ap (λ v. Some (figures v 0)) (minutes_of d i r low few less))
+    (ap padded_of (laid_seconds x m l) ∙ padded-digits 2 x (omega arith) (omega arith) (omega arith) ∙ ap (λ v. Some (figures v 0)) (seconds_of d i r low few less))
+    (ap (figures_of false) (laid_thousandths x m l) ∙ figures_digits 3 m (omega arith) (omega arith) (omega arith) ∙ ap (λ v. Some (figures v 0)) (thousandths_of d i r low few less ∙ omega arith))
   where
     m : ℕ
     m = figures_in n
@@ -126,15 +126,15 @@ parts_back n l h =
     less = omega arith
 
 -- and the angle that they make
-angled_back : (a : Axis) (z : ℤ) → leb (nat_abs z) (bound_of a) ≡ true → angled_of a (is_minus z) (parts_in (nat_abs z)) ≡ Held (Angle z)
+angled_back : (a : Axis) (z : ℤ) → leb (nat_abs z) (bound_of a) ≡ true → angled_of a (is_minus z) (parts_in (nat_abs z)) ≡ Ok (Angle z)
 unfolding angled_of
 angled_back a z h =
     let n = nat_abs z in
     let e : ((n / 3600000 * 60 + n / 60000 % 60) * 60 + n % 60000 / 1000) * 1000 + n % 1000 ≡ n = omega arith in
-    rw (lt-ltb (n / 60000 % 60) 60 (omega arith), lt-ltb (n % 60000 / 1000) 60 (omega arith), e, h) (ap (λ (x : ℤ). Held (Angle x)) (sign_back z))
+    rw (lt-ltb (n / 60000 % 60) 60 (omega arith), lt-ltb (n % 60000 / 1000) 60 (omega arith), e, h) (ap (λ (x : ℤ). Ok (Angle x)) (sign_back z))
 
 read_back : (a : Axis) (z : ℤ) → leb (nat_abs z) (bound_of a) ≡ true
-    → angle_of a (laid (figures_in (nat_abs z) / 10 ^ 3) (figures_in (nat_abs z)) (letter_of a (is_minus z))) ≡ Held (Angle z)
+    → angle_of a (laid (figures_in (nat_abs z) / 10 ^ 3) (figures_in (nat_abs z)) (letter_of a (is_minus z))) ≡ Ok (Angle z)
 unfolding angle_of is_spelled
 read_back a z h =
     let l = letter_of a (is_minus z) in
@@ -146,13 +146,13 @@ read_back a z h =
     let k : nat_abs z ≤ 648000000 = omega (arith, bound_most a) in
     rw (ne_eqb (blanks t) (length t) (λ q. let p : 46 ≡ 32 = sym r.1 ∙ blank_at t 7 q (omega arith) in omega arith), eq-eqb (length t) 12 w, parts_back (nat_abs z) l k, r.1, r.2, letter_is a (is_minus z), letter_minus a (is_minus z)) (angled_back a z h)
 
-pub angle_back : (a : Axis) (w : ℕ) (z : ℤ) (t : List ℕ) → angle_in a w z ≡ agreed t → (angle_of a t ≡ Held (Angle z)) × (length t ≡ w)
+pub angle_back : (a : Axis) (w : ℕ) (z : ℤ) (t : List ℕ) → angle_in a w z ≡ agreed t → (angle_of a t ≡ Ok (Angle z)) × (length t ≡ w)
 unfolding angle_in
 angle_back a w z t h = go (leb (nat_abs z) (bound_of a)) refl (eqb w 12) refl h
   where
     go : (b : Bool) → leb (nat_abs z) (bound_of a) ≡ b → (c : Bool) → eqb w 12 ≡ c
         → cond b (cond c (agreed (plain 7 3 (figures_in (nat_abs z)) ++ (letter_of a (is_minus z) ∷ []))) (refused NoRoom)) (refused Outside) ≡ agreed t
-        → (angle_of a t ≡ Held (Angle z)) × (length t ≡ w)
+        → (angle_of a t ≡ Ok (Angle z)) × (length t ≡ w)
     go true p true q e =
         let m = figures_in (nat_abs z) in
         let l = letter_of a (is_minus z) in

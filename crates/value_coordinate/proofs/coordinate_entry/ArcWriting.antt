@@ -7,7 +7,7 @@ use lib.ListN.{length, take, drop, set}
 use lib.Seq.{length-take-le}
 use lib.IntN.{ℤ, nat_abs}
 use borrow.Author.Tests.{eq-eqb, ne_eqb, le-leb, lt-leb}
-use Rattle.base_refusal.specs.declared.Written.TheVariants.{OutOfRange as Outside, NoRoom}
+use Rattle.base_refusal.specs.declared.Unwritten.TheVariants.{OutOfRange as Outside, NoRoom}
 use Rattle.base_digits.specs.digits.Columns.{agreed, refused, written}
 use Rattle.base_digits.specs.signs.Signs.{is_minus}
 use Rattle.value_number.specs.number_entry.Spelling.{plain, plain_in}

@@ -13,32 +13,34 @@ use Rattle.base_digits.specs.digits.Columns.{agreed}
 use Rattle.value_number.specs.number.Reading.{number_of}
 use Rattle.base_value.specs.declared.Decimal.{Decimal}
 use Rattle.base_value.specs.declared.Value.TheVariants as value
-use Rattle.base_value.specs.declared.Reading.{Reading}
-use Rattle.base_value.specs.declared.Reading.TheVariants.{Held, Malformed, OutOfRange}
+use Rattle.base_value.specs.declared.Unread.TheVariants.{Malformed, OutOfRange}
 use Rattle.value_number.proofs.number_entry.Agreed.{decimal-agreed}
 use Rattle.value_coordinate.specs.axes.Axes.{letter_of}
 use Rattle.value_coordinate.specs.grid.Grid.{present_of, grid_of}
 use Rattle.value_coordinate.specs.coordinate_entry.Plotting.{grid_in}
 use Rattle.value_coordinate.specs.declared.axes.Axis.{Axis}
+use Rattle.std.specs.Prelude.{Result, Ok, Err}
+use Rattle.base_value.specs.declared.Unread.{Unread}
+use Rattle.base_value.specs.declared.Value.{Value}
 
 -- a number that is there
-number-there : (n : Reading) (d : Decimal) → present_of n ≡ Held (value.Decimal d) → n ≡ Held (value.Decimal d)
+number-there : (n : Result Value Unread) (d : Decimal) → present_of n ≡ Ok (value.Decimal d) → n ≡ Ok (value.Decimal d)
 unfolding present_of
-number-there (Held value.Absent) d h = cc
-number-there (Held (value.Whole z)) d h = h
-number-there (Held (value.Decimal e)) d h = h
-number-there (Held (value.Angle z)) d h = h
-number-there (Held (value.Date e)) d h = h
-number-there (Held (value.Text c)) d h = h
-number-there Malformed d h = cc
-number-there OutOfRange d h = cc
+number-there (Ok value.Absent) d h = cc
+number-there (Ok (value.Whole z)) d h = h
+number-there (Ok (value.Decimal e)) d h = h
+number-there (Ok (value.Angle z)) d h = h
+number-there (Ok (value.Date e)) d h = h
+number-there (Ok (value.Text c)) d h = h
+number-there (Err Malformed) d h = cc
+number-there (Err OutOfRange) d h = cc
 
 some-columns : (s : List ℕ) → eqb (blanks s) (length s) ≡ false → length s ≡ 0 → ⊥
 unfolding blanks
 some-columns [] h k = true≢false h
 some-columns (b ∷ s) h k = omega arith
 
-pub grid_agreed : (a : Axis) (s : List ℕ) (d : Decimal) → grid_of a s ≡ Held (value.Decimal d) → (t : List ℕ) × (grid_in a (length s) d ≡ agreed t)
+pub grid_agreed : (a : Axis) (s : List ℕ) (d : Decimal) → grid_of a s ≡ Ok (value.Decimal d) → (t : List ℕ) × (grid_in a (length s) d ≡ agreed t)
 unfolding grid_of grid_in
 grid_agreed a s d h = go (eqb (blanks s) (length s)) refl (eqb (get_or s (length s - 1) 0) (letter_of a false)) h
   where
@@ -46,7 +48,7 @@ grid_agreed a s d h = go (eqb (blanks s) (length s)) refl (eqb (get_or s (length
     front = take (length s - 1) s
 
     go : (b : Bool) → eqb (blanks s) (length s) ≡ b → (c : Bool)
-        → cond b (Held value.Absent) (cond c (present_of (number_of true front)) Malformed) ≡ Held (value.Decimal d) → (t : List ℕ) × (grid_in a (length s) d ≡ agreed t)
+        → cond b (Ok value.Absent) (cond c (present_of (number_of true front)) (Err Malformed)) ≡ Ok (value.Decimal d) → (t : List ℕ) × (grid_in a (length s) d ≡ agreed t)
     go true p c e = absurd (let x : ◌≡◌ {A = ℕ} 0 1 = cc in omega arith)
     go false p false e = absurd (let x : ◌≡◌ {A = ℕ} 0 1 = cc in omega arith)
     go false p true e =

@@ -1,8 +1,7 @@
 -- How coordinates are written: an angle as dddmmss.sss and a letter, a decimal and the letter N or E.
-use Rattle.std.specs.Prelude.{ℕ, ◌+◌, ◌-◌, ◌*◌, ◌/◌, ◌%◌, List, [], ◌∷◌, ◌++◌, false, cond, eqb, leb, ℤ, nat_abs}
-use Rattle.std.proofs.Math.Option.{Option, none, some}
+use Rattle.std.specs.Prelude.{ℕ, ◌+◌, ◌-◌, ◌*◌, ◌/◌, ◌%◌, List, [], ◌∷◌, ◌++◌, false, cond, eqb, leb, ℤ, nat_abs, Option, None, Some}
 use Rattle.base_digits.specs.digits.Columns.{Entry, agreed, refused}
-use Rattle.base_refusal.specs.declared.Written.TheVariants.{OutOfRange as Outside, NoRoom}
+use Rattle.base_refusal.specs.declared.Unwritten.TheVariants.{OutOfRange as Outside, NoRoom}
 use Rattle.base_digits.specs.signs.Signs.{is_minus}
 use Rattle.base_value.specs.declared.Decimal.{Decimal}
 use Rattle.value_number.specs.number_entry.Spelling.{plain, decimal_in}
@@ -22,8 +21,8 @@ angle_in a w z =
 
 -- a number for which there may be no room, and the letter
 abbrev pub lettered : ℕ → Option (List ℕ) → Entry
-lettered letter (some t) = agreed (t ++ (letter ∷ []))
-lettered letter none = refused NoRoom
+lettered letter (Some t) = agreed (t ++ (letter ∷ []))
+lettered letter None = refused NoRoom
 
 -- a grid coordinate in w columns
 unfoldable pub grid_in : Axis → ℕ → Decimal → Entry

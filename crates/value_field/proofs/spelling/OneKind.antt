@@ -9,10 +9,7 @@ use Rattle.base_digits.specs.signs.Signs.{signed_of}
 use Rattle.base_value.specs.declared.Date.{Date as DateOf}
 use Rattle.base_value.specs.declared.Value.{Value}
 use Rattle.base_value.specs.declared.Value.TheVariants.{Absent, Decimal, Angle, Date}
-use Rattle.base_value.specs.declared.Reading.{Reading}
-use Rattle.base_value.specs.declared.Reading.TheVariants.{Held, Malformed, OutOfRange}
-use Rattle.value_number.specs.declared.number.Figures.{Figures}
-use Rattle.value_number.specs.declared.number.Figures.TheVariants.{Units, Not}
+use Rattle.base_value.specs.declared.Unread.TheVariants.{Malformed, OutOfRange}
 use Rattle.value_number.specs.number.Reading.{all_digits, held_of, sign_of, number_of}
 use Rattle.value_date.specs.Calendar.{is_date}
 use Rattle.value_date.specs.Dates.{parts_of as parts_in, dated_of, date_of}
@@ -23,19 +20,22 @@ use Rattle.value_coordinate.specs.axes.Axes.{bound_of, letter_of}
 use Rattle.value_coordinate.specs.grid.Grid.{present_of, grid_of}
 use Rattle.value_text.specs.text.Texts.{text_of}
 use Rattle.value_field.specs.spelling.Reading.{number_in}
+use Rattle.std.specs.Prelude.{Result, Ok, Err, Option, Some, None}
+use Rattle.base_value.specs.declared.Unread.{Unread}
+use Rattle.value_number.specs.declared.number.Figures.{Figures}
 
 -- what holds of blanks, of every value of the kind, and of both ways to be none, holds of the reading
-abbrev pub OfKind : {A : Type 0} → (A → Value) → Reading → Type 1
-OfKind {A} kind r = (P : Reading → Type 0) → P (Held Absent) → ((x : A) → P (Held (kind x))) → P Malformed → P OutOfRange → P r
+abbrev pub OfKind : {A : Type 0} → (A → Value) → Result Value Unread → Type 1
+OfKind {A} kind r = (P : Result Value Unread → Type 0) → P (Ok Absent) → ((x : A) → P (Ok (kind x))) → P (Err Malformed) → P (Err OutOfRange) → P r
 
-by_test : (P : Reading → Type 0) (b : Bool) {x y : Reading} → P x → P y → P (cond b x y)
+by_test : (P : Result Value Unread → Type 0) (b : Bool) {x y : Result Value Unread} → P x → P y → P (cond b x y)
 by_test P true p q = p
 by_test P false p q = q
 
-held_kind : (minus : Bool) (f : Figures) → OfKind Decimal (held_of minus f)
+held_kind : (minus : Bool) (f : Option Figures) → OfKind Decimal (held_of minus f)
 unfolding held_of
-held_kind minus Not P a k m o = m
-held_kind minus (Units n p) P a k m o = by_test P (ltb n limit) (k _) o
+held_kind minus None P a k m o = m
+held_kind minus (Some f) P a k m o = by_test P (ltb f.units limit) (k _) o
 
 sign_kind : (point : Bool) (s : List ℕ) → OfKind Decimal (sign_of point s)
 unfolding sign_of

@@ -13,14 +13,14 @@ use Rattle.base_digits.proofs.digits.Bools.{and_left, and_right}
 use Rattle.base_digits.proofs.digits.Walk.{all-leading}
 use Rattle.base_value.specs.declared.Decimal.{Decimal as DecimalOf}
 use Rattle.base_value.specs.declared.Value.TheVariants.{Decimal}
-use Rattle.base_value.specs.declared.Reading.TheVariants.{Held}
-use Rattle.value_number.specs.declared.number.Figures.{Figures}
-use Rattle.value_number.specs.declared.number.Figures.TheVariants.{Units, Not}
 use Rattle.value_number.specs.number.Reading.{all_digits, units_of, point_of, figures_of, held_of, sign_of, number_of}
 use Rattle.value_number.proofs.number_entry.Agreed.{front_back}
 use Rattle.value_text.specs.text.Texts.{text_end, text_of}
 use Rattle.value_text.proofs.text.Agreed.{end_le}
 use Rattle.value_field.specs.spelling.Reading.{number_in, pushed_left}
+use Rattle.std.specs.Prelude.{Ok, Option, Some, None}
+use Rattle.value_number.specs.declared.number.Figures.{Figures}
+use Rattle.value_number.specs.number.Figures.{figures}
 
 zero_one : ◌≡◌ {A = ℕ} 0 1 → ⊥
 zero_one h = omega arith
@@ -60,11 +60,11 @@ record Figured (u : List ℕ) : Type 0 where
   some : 0 < length u
   full : Filled u
 
-no_digit : (a : List ℕ) (m q n p : ℕ) → cond (eqb (length a + 0) 0) Not (Units m q) ≡ Units n p → 0 < length a
+no_digit : (a : List ℕ) (m q n p : ℕ) → cond (eqb (length a + 0) 0) None (Some (figures m q)) ≡ Some (figures n p) → 0 < length a
 no_digit [] m q n p h = absurd (zero_one cc)
 no_digit (b ∷ a) m q n p h = omega arith
 
-figures_filled : (point : Bool) (u : List ℕ) (n p : ℕ) → figures_of point u ≡ Units n p → Figured u
+figures_filled : (point : Bool) (u : List ℕ) (n p : ℕ) → figures_of point u ≡ Some (figures n p) → Figured u
 unfolding figures_of point_of
 figures_filled point u n p e = go (behind u) refl e
   where
@@ -77,28 +77,28 @@ figures_filled point u n p e = go (behind u) refl e
         (record { some = omega (arith, length-append (leading u) (c ∷ b)); full = filled_behind (leading u) (c ∷ b) (omega arith) f })
 
     test : (c : ℕ) (b : List ℕ) → behind u ≡ c ∷ b → (t : Bool) → (point && (eqb c 46 && all_digits b)) ≡ t
-        → cond t (units_of (leading u) b) Not ≡ Units n p → Figured u
+        → cond t (units_of (leading u) b) None ≡ Some (figures n p) → Figured u
     test c b q true z h =
         let r = and_right point (eqb c 46 && all_digits b) z in
         pointed c b q (and_left (eqb c 46) (all_digits b) r) (and_right (eqb c 46) (all_digits b) r)
     test c b q false z h = absurd (zero_one cc)
 
-    go : (r : List ℕ) → behind u ≡ r → point_of point (leading u) r ≡ Units n p → Figured u
+    go : (r : List ℕ) → behind u ≡ r → point_of point (leading u) r ≡ Some (figures n p) → Figured u
     go [] q h =
         let all : leading u ≡ u = sym (append-nil (leading u)) ∙ ap (λ (l : List ℕ). leading u ++ l) (sym q) ∙ front_back u in
         subst Figured all (record { some = no_digit (leading u) _ _ n p h; full = digits_filled u })
     go (c ∷ b) q h = test c b q (point && (eqb c 46 && all_digits b)) refl h
 
 -- with its sign too
-held_filled : (minus point : Bool) (u : List ℕ) (d : DecimalOf) → held_of minus (figures_of point u) ≡ Held (Decimal d) → Figured u
+held_filled : (minus point : Bool) (u : List ℕ) (d : DecimalOf) → held_of minus (figures_of point u) ≡ Ok (Decimal d) → Figured u
 unfolding held_of
 held_filled minus point u d e = go (figures_of point u) refl e
   where
-    go : (f : Figures) → figures_of point u ≡ f → held_of minus f ≡ Held (Decimal d) → Figured u
-    go Not q h = absurd (zero_one cc)
-    go (Units n p) q h = figures_filled point u n p q
+    go : (f : Option Figures) → figures_of point u ≡ f → held_of minus f ≡ Ok (Decimal d) → Figured u
+    go None q h = absurd (zero_one cc)
+    go (Some f) q h = figures_filled point u f.units f.places q
 
-sign_filled : (point : Bool) (v : List ℕ) (d : DecimalOf) → sign_of point v ≡ Held (Decimal d) → Figured v
+sign_filled : (point : Bool) (v : List ℕ) (d : DecimalOf) → sign_of point v ≡ Ok (Decimal d) → Figured v
 unfolding sign_of
 sign_filled point [] d e = absurd (zero_one cc)
 sign_filled point (b ∷ t) d e = go (eqb b 45) (eqb b 43) e
@@ -107,13 +107,13 @@ sign_filled point (b ∷ t) d e = go (eqb b 45) (eqb b 43) e
     signed f = record { some = omega arith; full = filled_behind (b ∷ []) t f.some f.full }
 
     go : (x y : Bool)
-        → cond x (held_of true (figures_of point t)) (cond y (held_of false (figures_of point t)) (held_of false (figures_of point (b ∷ t)))) ≡ Held (Decimal d)
+        → cond x (held_of true (figures_of point t)) (cond y (held_of false (figures_of point t)) (held_of false (figures_of point (b ∷ t)))) ≡ Ok (Decimal d)
         → Figured (b ∷ t)
     go true y h = signed (held_filled true point t d h)
     go false true h = signed (held_filled false point t d h)
     go false false h = held_filled false point (b ∷ t) d h
 
-module _ (point : Bool) (s : List ℕ) (d : DecimalOf) (e : number_of point s ≡ Held (Decimal d)) where
+module _ (point : Bool) (s : List ℕ) (d : DecimalOf) (e : number_of point s ≡ Ok (Decimal d)) where
   -- a number that the strict rule reads fills its columns to the last
   pub number_filled : text_end s ≡ length s
   unfolding number_of unpadded
@@ -131,7 +131,7 @@ module _ (point : Bool) (s : List ℕ) (d : DecimalOf) (e : number_of point s �
       and_false true = refl
       and_false false = refl
 
-  pub strict_alike : number_in point s ≡ Held (Decimal d)
+  pub strict_alike : number_in point s ≡ Ok (Decimal d)
   unfolding number_in text_of
   strict_alike = ap (number_of point) (take_all (text_end s) s (omega (arith, number_filled))) ∙ e
 

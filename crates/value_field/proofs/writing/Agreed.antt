@@ -23,8 +23,7 @@ use Rattle.value_text.proofs.text.Agreed.{text-again}
 use Rattle.base_value.specs.declared.Columns.{Columns}
 use Rattle.base_value.specs.declared.Value.{Value}
 use Rattle.base_value.specs.declared.Value.TheVariants.{Absent, Whole, Decimal, Angle, Date, Text}
-use Rattle.base_value.specs.declared.Reading.{Reading}
-use Rattle.base_value.specs.declared.Reading.TheVariants.{Held, Malformed}
+use Rattle.base_value.specs.declared.Unread.TheVariants.{Malformed}
 use Rattle.value_field.specs.declared.spelling.Spelling.{Spelling}
 use Rattle.value_field.specs.declared.spelling.Spelling.TheVariants as spelled
 use Rattle.value_field.specs.spelling.Reading.{text_reading, number_in, whole_reading, reading_of, misplaced_in, is_text}
@@ -33,6 +32,8 @@ use Rattle.value_field.proofs.spelling.OneKind.{OfKind, number_in_kind, date_kin
 use Rattle.value_field.proofs.spelling.Absence.{zero_one}
 use Rattle.value_field.proofs.spelling.Standing.{stretch_le}
 use Rattle.value_field.proofs.writing.Back.{value_back, value_placed}
+use Rattle.std.specs.Prelude.{Result, Ok, Err}
+use Rattle.base_value.specs.declared.Unread.{Unread}
 
 -- a text that it agrees to
 abbrev Agrees : Entry → Type 0
@@ -40,8 +41,8 @@ Agrees e = (t : List ℕ) × (e ≡ agreed t)
 
 module _ (s : List ℕ) where
   -- a value that was read: absent, or one of its kind, for which there is room
-  kind_agrees : {A : Type 0} (kind : A → Value) (entry : Value → Entry) (r : Reading) → OfKind kind r
-      → Agrees (entry Absent) → ((x : A) → r ≡ Held (kind x) → Agrees (entry (kind x))) → (v : Value) → r ≡ Held v → Agrees (entry v)
+  kind_agrees : {A : Type 0} (kind : A → Value) (entry : Value → Entry) (r : Result Value Unread) → OfKind kind r
+      → Agrees (entry Absent) → ((x : A) → r ≡ Ok (kind x) → Agrees (entry (kind x))) → (v : Value) → r ≡ Ok v → Agrees (entry v)
   kind_agrees kind entry r of-kind blank held v e =
       of-kind (λ n. r ≡ n → Agrees (entry v))
       (λ q. let i : Absent ≡ v = cc in subst (λ x. Agrees (entry x)) i blank)
@@ -50,10 +51,10 @@ module _ (s : List ℕ) where
       (λ q. absurd (zero_one cc))
       refl
 
-  whole_agrees : (v : Value) → whole_reading (number_in false s) ≡ Held v → Agrees (whole_in (length s) v)
+  whole_agrees : (v : Value) → whole_reading (number_in false s) ≡ Ok v → Agrees (whole_in (length s) v)
   unfolding whole_reading whole_in number_in
   whole_agrees v e =
-      number_in_kind false s (λ n. number_in false s ≡ n → whole_reading n ≡ Held v → Agrees (whole_in (length s) v))
+      number_in_kind false s (λ n. number_in false s ≡ n → whole_reading n ≡ Ok v → Agrees (whole_in (length s) v))
       (λ q h. let i : Absent ≡ v = cc in subst (λ x. Agrees (whole_in (length s) x)) i (_, refl))
       (λ d q h. let i : Whole d.units ≡ v = cc in subst (λ x. Agrees (whole_in (length s) x)) i (room d q))
       (λ q h. absurd (zero_one cc))
@@ -61,34 +62,34 @@ module _ (s : List ℕ) where
       refl
       e
     where
-      room : (d : DecimalOf) → number_in false s ≡ Held (Decimal d) → Agrees (room_of (decimal_in (length s) (record { units = d.units; places = 0 })))
+      room : (d : DecimalOf) → number_in false s ≡ Ok (Decimal d) → Agrees (room_of (decimal_in (length s) (record { units = d.units; places = 0 })))
       room d q =
           let u = decimal-agreed false (text_of s) d q (length s) (stretch_le s) in
           (u.0, ap (λ p. room_of (decimal_in (length s) (record { units = d.units; places = p }))) (sym (whole-places (text_of s) d q)) ∙ ap room_of u.1)
 
-  decimal_agrees : (v : Value) → number_in true s ≡ Held v → Agrees (units_in (length s) v)
+  decimal_agrees : (v : Value) → number_in true s ≡ Ok v → Agrees (units_in (length s) v)
   unfolding units_in number_in
   decimal_agrees =
       kind_agrees Decimal (units_in (length s)) (number_in true s) (number_in_kind true s) (_, refl)
       (λ d q. let u = decimal-agreed true (text_of s) d q (length s) (stretch_le s) in (u.0, ap room_of u.1))
 
-  grid_agrees : (a : Axis) (v : Value) → grid_of a s ≡ Held v → Agrees (grid_entry_in a (length s) v)
+  grid_agrees : (a : Axis) (v : Value) → grid_of a s ≡ Ok v → Agrees (grid_entry_in a (length s) v)
   unfolding grid_entry_in
   grid_agrees a = kind_agrees Decimal (grid_entry_in a (length s)) (grid_of a s) (grid_kind a s) (_, refl) (λ d q. grid_agreed a s d q)
 
-  day_agrees : (v : Value) → date_of s ≡ Held v → Agrees (day_in (length s) v)
+  day_agrees : (v : Value) → date_of s ≡ Ok v → Agrees (day_in (length s) v)
   unfolding day_in
   day_agrees = kind_agrees Date (day_in (length s)) (date_of s) (date_kind s) (_, refl) (λ d q. (s, date-agreed s d q))
 
-  arc_agrees : (a : Axis) (v : Value) → angle_of a s ≡ Held v → Agrees (arc_in a (length s) v)
+  arc_agrees : (a : Axis) (v : Value) → angle_of a s ≡ Ok v → Agrees (arc_in a (length s) v)
   unfolding arc_in
   arc_agrees a = kind_agrees Angle (arc_in a (length s)) (angle_of a s) (angle_kind a s) (_, refl) (λ z q. angle_agreed a s z q)
 
-  nothing_agrees : (lead : Bool) (v : Value) → text_reading lead s ≡ Held v → is_text (Held v) ≡ false → Agrees (no_value_in (length s) v)
+  nothing_agrees : (lead : Bool) (v : Value) → text_reading lead s ≡ Ok v → is_text (Ok v) ≡ false → Agrees (no_value_in (length s) v)
   unfolding text_reading no_value_in is_text
   nothing_agrees lead v e n = go (eqb (text_end s) 0) (lead || not (leading_blank s)) e
     where
-      go : (b c : Bool) → cond b (Held Absent) (cond c (Held (Text (record { first = 1; last = text_end s }))) Malformed) ≡ Held v
+      go : (b c : Bool) → cond b (Ok Absent) (cond c (Ok (Text (record { first = 1; last = text_end s }))) (Err Malformed)) ≡ Ok v
           → Agrees (no_value_in (length s) v)
       go true c h = let r : Absent ≡ v = cc in subst (λ x. Agrees (no_value_in (length s) x)) r (_, refl)
       go false true h =
@@ -97,7 +98,7 @@ module _ (s : List ℕ) where
       go false false h = absurd (zero_one cc)
 
   -- a value that was read can be written
-  value_agrees : (k : Spelling) (v : Value) → reading_of k s ≡ Held v → is_text (Held v) ≡ false → Agrees (entry_of k (length s) v)
+  value_agrees : (k : Spelling) (v : Value) → reading_of k s ≡ Ok v → is_text (Ok v) ≡ false → Agrees (entry_of k (length s) v)
   unfolding reading_of entry_of
   value_agrees spelled.Text v e n = nothing_agrees false v e n
   value_agrees spelled.Comment v e n = nothing_agrees true v e n
@@ -110,7 +111,7 @@ module _ (s : List ℕ) where
   value_agrees spelled.Easting v e n = grid_agrees X v e
 
 -- the entry that rewriting makes, where what stands there is no text
-again_value : (k : Spelling) (s : List ℕ) (v : Value) → is_text (Held v) ≡ false → again_in k s (Held v) ≡ entry_of k (length s) v
+again_value : (k : Spelling) (s : List ℕ) (v : Value) → is_text (Ok v) ≡ false → again_in k s (Ok v) ≡ entry_of k (length s) v
 unfolding again_in is_text
 again_value k s Absent n = refl
 again_value k s (Whole z) n = refl
@@ -119,12 +120,12 @@ again_value k s (Angle z) n = refl
 again_value k s (Date d) n = refl
 again_value k s (Text c) n = absurd (true≢false n)
 
-rewritten_is : (k : Spelling) (s : List ℕ) (v : Value) → reading_of k s ≡ Held v → is_text (Held v) ≡ false → rewritten_of k s ≡ entry_of k (length s) v
+rewritten_is : (k : Spelling) (s : List ℕ) (v : Value) → reading_of k s ≡ Ok v → is_text (Ok v) ≡ false → rewritten_of k s ≡ entry_of k (length s) v
 unfolding rewritten_of
 rewritten_is k s v e n = ap (again_in k s) e ∙ again_value k s v n
 
 -- two spellings of one value become one
-pub one_spelling : (k : Spelling) (s t : List ℕ) (v : Value) → reading_of k s ≡ Held v → reading_of k t ≡ Held v → is_text (Held v) ≡ false
+pub one_spelling : (k : Spelling) (s t : List ℕ) (v : Value) → reading_of k s ≡ Ok v → reading_of k t ≡ Ok v → is_text (Ok v) ≡ false
     → length s ≡ length t → rewritten_of k s ≡ rewritten_of k t
 one_spelling k s t v e f n l = rewritten_is k s v e n ∙ ap (λ w. entry_of k w v) l ∙ sym (rewritten_is k t v f n)
 
@@ -132,12 +133,12 @@ one_spelling k s t v e f n l = rewritten_is k s v e n ∙ ap (λ w. entry_of k w
 pub record Rewritten (k : Spelling) (s : List ℕ) (v : Value) : Type 0 where
   pub columns : List ℕ
   pub rewritten : rewritten_of k s ≡ agreed columns
-  pub says : reading_of k columns ≡ Held v
+  pub says : reading_of k columns ≡ Ok v
   pub width : length columns ≡ length s
   pub placed : misplaced_in k columns ≡ false
   pub once : rewritten_of k columns ≡ agreed columns
 
-pub value_rewritten : (k : Spelling) (s : List ℕ) (v : Value) → reading_of k s ≡ Held v → is_text (Held v) ≡ false → Rewritten k s v
+pub value_rewritten : (k : Spelling) (s : List ℕ) (v : Value) → reading_of k s ≡ Ok v → is_text (Ok v) ≡ false → Rewritten k s v
 value_rewritten k s v e n =
     let a = value_agrees s k v e n in
     let r : rewritten_of k s ≡ agreed a.0 = rewritten_is k s v e n ∙ a.1 in
@@ -153,12 +154,12 @@ value_rewritten k s v e n =
 
 -- a text leaves the very columns that it was read from
 text_agrees : (lead : Bool) (k : Spelling) → ((w : ℕ) (x : List ℕ) → text_entry_of k w x ≡ text_in lead w x) → (s : List ℕ) (v : Value)
-    → text_reading lead s ≡ Held v → is_text (Held v) ≡ true → printable s ≡ true → text_entry_of k (length s) (text_of s) ≡ agreed s
+    → text_reading lead s ≡ Ok v → is_text (Ok v) ≡ true → printable s ≡ true → text_entry_of k (length s) (text_of s) ≡ agreed s
 unfolding text_reading is_text
 text_agrees lead k q s v e n p = go (eqb (text_end s) 0) refl (lead || not (leading_blank s)) refl e
   where
     go : (b : Bool) → eqb (text_end s) 0 ≡ b → (c : Bool) → (lead || not (leading_blank s)) ≡ c
-        → cond b (Held Absent) (cond c (Held (Text (record { first = 1; last = text_end s }))) Malformed) ≡ Held v
+        → cond b (Ok Absent) (cond c (Ok (Text (record { first = 1; last = text_end s }))) (Err Malformed)) ≡ Ok v
         → text_entry_of k (length s) (text_of s) ≡ agreed s
     go true x c y h = let r : v ≡ Absent = cc in absurd (false≢true (rw r at n))
     go false x true y h = q (length s) (text_of s) ∙ text-again lead s (eqb-false (text_end s) 0 x) y p
@@ -166,15 +167,16 @@ text_agrees lead k q s v e n p = go (eqb (text_end s) 0) refl (lead || not (lead
 
 -- no other reading is a text
 module _ (c : Columns) where
-  no_whole : (s : List ℕ) → whole_reading (number_in false s) ≡ Held (Text c) → ⊥
+  no_whole : (s : List ℕ) → whole_reading (number_in false s) ≡ Ok (Text c) → ⊥
   unfolding whole_reading
   no_whole s =
-      number_in_kind false s (λ n. whole_reading n ≡ Held (Text c) → ⊥) (λ e. zero_one cc) (λ d e. zero_one cc) (λ e. zero_one cc) (λ e. zero_one cc)
+      number_in_kind false s (λ n. whole_reading n ≡ Ok (Text c) → ⊥) (λ e. zero_one cc) (λ d e. zero_one cc) (λ e. zero_one cc) (λ e. zero_one cc)
 
-  no_text : {A : Type 0} (kind : A → Value) (r : Reading) → OfKind kind r → ((x : A) → Held (kind x) ≡ Held (Text c) → ⊥) → r ≡ Held (Text c) → ⊥
-  no_text kind r of-kind other = of-kind (λ n. n ≡ Held (Text c) → ⊥) (λ e. zero_one cc) other (λ e. zero_one cc) (λ e. zero_one cc)
+  no_text : {A : Type 0} (kind : A → Value) (r : Result Value Unread) → OfKind kind r
+      → ((x : A) → ◌≡◌ {A = Result Value Unread} (Ok (kind x)) (Ok (Text c)) → ⊥) → r ≡ Ok (Text c) → ⊥
+  no_text kind r of-kind other = of-kind (λ n. n ≡ Ok (Text c) → ⊥) (λ e. zero_one cc) other (λ e. zero_one cc) (λ e. zero_one cc)
 
-  text-entry : (k : Spelling) (s : List ℕ) → reading_of k s ≡ Held (Text c) → printable s ≡ true → text_entry_of k (length s) (text_of s) ≡ agreed s
+  text-entry : (k : Spelling) (s : List ℕ) → reading_of k s ≡ Ok (Text c) → printable s ≡ true → text_entry_of k (length s) (text_of s) ≡ agreed s
   unfolding reading_of text_entry_of is_text
   text-entry spelled.Text s e p = text_agrees false spelled.Text (λ w x. refl) s (Text c) e refl p
   text-entry spelled.Comment s e p = text_agrees true spelled.Comment (λ w x. refl) s (Text c) e refl p
@@ -187,6 +189,6 @@ module _ (c : Columns) where
   text-entry spelled.Easting s e p = absurd (no_text Decimal (grid_of X s) (grid_kind X s) (λ d h. zero_one cc) e)
 
 -- rewriting a text that was read leaves the columns as they are
-pub text_rewritten : (k : Spelling) (s : List ℕ) (c : Columns) → reading_of k s ≡ Held (Text c) → printable s ≡ true → rewritten_of k s ≡ agreed s
+pub text_rewritten : (k : Spelling) (s : List ℕ) (c : Columns) → reading_of k s ≡ Ok (Text c) → printable s ≡ true → rewritten_of k s ≡ agreed s
 unfolding rewritten_of again_in
 text_rewritten k s c e p = ap (again_in k s) e ∙ text-entry c k s e p

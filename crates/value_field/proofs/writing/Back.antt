@@ -4,10 +4,8 @@ use native.Mathlib.Omega.{arith}
 use mathlib.Core.Path.{◌≡◌, refl, sym, ap, subst, ◌∙◌}
 use mathlib.Core.List.{List, []}
 use mathlib.Core.Bool.{Bool, true, false}
-use mathlib.Core.Option.{Option, none, some}
 use lib.ListN.{length, replicate, length-replicate}
 use borrow.Author.Tests.{ne_eqb}
-use Rattle.base_refusal.specs.declared.Written.{Written}
 use Rattle.base_digits.specs.digits.Columns.{agreed, refused, room_of}
 use Rattle.value_number.specs.number_entry.Spelling.{decimal_in}
 use Rattle.value_number.proofs.number_entry.Back.{number_back}
@@ -23,25 +21,26 @@ use Rattle.value_text.proofs.text.Back.{PutText, text_back, end_blanks}
 use Rattle.base_value.specs.declared.Decimal.{Decimal as DecimalOf}
 use Rattle.base_value.specs.declared.Value.{Value}
 use Rattle.base_value.specs.declared.Value.TheVariants.{Absent, Whole, Decimal, Angle, Date, Text}
-use Rattle.base_value.specs.declared.Reading.{Reading}
-use Rattle.base_value.specs.declared.Reading.TheVariants.{Held}
 use Rattle.value_field.specs.declared.spelling.Spelling.{Spelling}
 use Rattle.value_field.specs.declared.spelling.Spelling.TheVariants as spelled
 use Rattle.value_field.specs.spelling.Reading.{text_reading, pushed_left, whole_reading, reading_of, misplaced_in, is_text, text_read}
 use Rattle.value_field.specs.writing.Writing.{blanked, no_value_in, whole_in, units_in, day_in, arc_in, grid_entry_in, entry_of, text_entry_of}
 use Rattle.value_field.proofs.spelling.Absence.{blank_read}
 use Rattle.value_field.proofs.spelling.Standing.{strict_alike, strict_placed, blank_placed}
+use Rattle.std.specs.Prelude.{Result, Ok, Option, None, Some}
+use Rattle.base_value.specs.declared.Unread.{Unread}
+use Rattle.base_refusal.specs.declared.Unwritten.{Unwritten}
 
 -- what t says is v, and t is w columns wide
-abbrev pub ReadsBack : (List ℕ → Reading) → ℕ → Value → List ℕ → Type 0
-ReadsBack says w v t = (says t ≡ Held v) × (length t ≡ w)
+abbrev pub ReadsBack : (List ℕ → Result Value Unread) → ℕ → Value → List ℕ → Type 0
+ReadsBack says w v t = (says t ≡ Ok v) × (length t ≡ w)
 
-pub never : {why : Written} {t : List ℕ} → refused why ≡ agreed t → ⊥
+pub never : {why : Unwritten} {t : List ℕ} → refused why ≡ agreed t → ⊥
 never e = let x : ◌≡◌ {A = ℕ} 0 1 = cc in omega arith
 
-pub room-is : (o : Option (List ℕ)) (t : List ℕ) → room_of o ≡ agreed t → o ≡ some t
-room-is (some u) t e = let q : u ≡ t = cc in ap some q
-room-is none t e = absurd (never e)
+pub room-is : (o : Option (List ℕ)) (t : List ℕ) → room_of o ≡ agreed t → o ≡ Some t
+room-is (Some u) t e = let q : u ≡ t = cc in ap Some q
+room-is None t e = absurd (never e)
 
 module _ (w : ℕ) (t : List ℕ) where
   blank_back : (k : Spelling) → blanked w ≡ agreed t → ReadsBack (reading_of k) w Absent t

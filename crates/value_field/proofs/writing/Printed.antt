@@ -5,7 +5,6 @@ use native.Mathlib.Nat.{mod-lt}
 use mathlib.Core.Path.{◌≡◌, refl, sym, subst, ◌∙◌}
 use mathlib.Core.List.{List, [], ◌∷◌, ◌++◌}
 use mathlib.Core.Bool.{Bool, true, false, cond, ◌&&◌, not}
-use mathlib.Core.Option.{Option, none, some}
 use lib.ListN.{length, replicate}
 use lib.Dec.{leb, ltb, eqb}
 use lib.IntN.{ℤ, nat_abs}
@@ -13,7 +12,7 @@ use borrow.Author.Tests.{le-leb}
 use Rattle.base_digits.specs.digits.Figures.{limit}
 use Rattle.base_digits.specs.digits.Digits.{digits, size}
 use Rattle.base_digits.specs.digits.Columns.{agreed, refused, right_adjusted, or_else}
-use Rattle.base_refusal.specs.declared.Written.TheVariants as written
+use Rattle.base_refusal.specs.declared.Unwritten.TheVariants as unwritten
 use Rattle.base_digits.proofs.digits.Bools.{and_left, and_right, and_both}
 use Rattle.base_value.specs.declared.Decimal.{Decimal as DecimalOf}
 use Rattle.base_digits.specs.signs.Signs.{is_minus}
@@ -34,6 +33,7 @@ use Rattle.value_field.specs.declared.spelling.Spelling.TheVariants as spelling
 use Rattle.value_field.specs.writing.Writing.{blanked, no_value_in, whole_in, units_in, day_in, arc_in, grid_entry_in, entry_of, text_entry_of}
 use Rattle.value_field.proofs.spelling.Absence.{zero_one}
 use Rattle.value_field.proofs.writing.Back.{never, room-is}
+use Rattle.std.specs.Prelude.{Option, None, Some}
 
 -- one byte, and bytes behind bytes
 one : (b : ℕ) (s : List ℕ) → 32 ≤ b → b ≤ 126 → printable s ≡ true → printable (b ∷ s) ≡ true
@@ -78,11 +78,11 @@ unfolding spelled sign
 spelled-printed true k p n = one 45 (plain k p n) (omega arith) (omega arith) (plain-printed k p n)
 spelled-printed false k p n = plain-printed k p n
 
-adjusted_printed : (w : ℕ) (x t : List ℕ) → printable x ≡ true → right_adjusted w x ≡ some t → printable t ≡ true
+adjusted_printed : (w : ℕ) (x t : List ℕ) → printable x ≡ true → right_adjusted w x ≡ Some t → printable t ≡ true
 adjusted_printed w x t h e =
     subst (λ (l : List ℕ). printable l ≡ true) (sym (adjusted_back w x t e).0) (both (replicate (w - length x) 32) x (spaces (w - length x)) h)
 
-decimal-printed : (w : ℕ) (d : DecimalOf) (t : List ℕ) → decimal_in w d ≡ some t → printable t ≡ true
+decimal-printed : (w : ℕ) (d : DecimalOf) (t : List ℕ) → decimal_in w d ≡ Some t → printable t ≡ true
 unfolding decimal_in units_at
 decimal-printed w d t e = go (ltb n limit) (right_adjusted w full) refl e
   where
@@ -95,10 +95,10 @@ decimal-printed w d t e = go (ltb n limit) (right_adjusted w full) refl e
     least : List ℕ
     least = spelled (is_minus d.units) (max (size n) d.places - d.places) d.places n
 
-    go : (b : Bool) (o : Option (List ℕ)) → right_adjusted w full ≡ o → cond b (or_else o (right_adjusted w least)) none ≡ some t → printable t ≡ true
+    go : (b : Bool) (o : Option (List ℕ)) → right_adjusted w full ≡ o → cond b (or_else o (right_adjusted w least)) None ≡ Some t → printable t ≡ true
     go false o q h = absurd (zero_one cc)
-    go true (some u) q h = adjusted_printed w full t (spelled-printed (is_minus d.units) _ d.places n) (q ∙ h)
-    go true none q h = adjusted_printed w least t (spelled-printed (is_minus d.units) _ d.places n) h
+    go true (Some u) q h = adjusted_printed w full t (spelled-printed (is_minus d.units) _ d.places n) (q ∙ h)
+    go true None q h = adjusted_printed w least t (spelled-printed (is_minus d.units) _ d.places n) h
 
 letter_printed : (a : Axis) (m : Bool) → printable (letter_of a m ∷ []) ≡ true
 unfolding letter_of printable
@@ -111,7 +111,7 @@ date-printed : (w : ℕ) (d : DateOf) (t : List ℕ) → date_in w d ≡ agreed 
 unfolding date_in
 date-printed w d t e = go (is_date d) (eqb w 8) e
   where
-    go : (a b : Bool) → cond a (cond b (agreed (digits 8 (number_of d))) (refused written.NoRoom)) (refused written.OutOfRange) ≡ agreed t → printable t ≡ true
+    go : (a b : Bool) → cond a (cond b (agreed (digits 8 (number_of d))) (refused unwritten.NoRoom)) (refused unwritten.OutOfRange) ≡ agreed t → printable t ≡ true
     go true true h = let q : digits 8 (number_of d) ≡ t = cc in subst (λ (l : List ℕ). printable l ≡ true) q (figures 8 (number_of d))
     go true false h = absurd (never h)
     go false b h = absurd (never h)
@@ -124,7 +124,7 @@ angle_printed a w z t e = go (leb (nat_abs z) (bound_of a)) (eqb w 12) e
     text = plain 7 3 (figures_in (nat_abs z)) ++ (letter_of a (is_minus z) ∷ [])
 
     go : (b c : Bool)
-        → cond b (cond c (agreed (plain 7 3 (figures_in (nat_abs z)) ++ (letter_of a (is_minus z) ∷ []))) (refused written.NoRoom)) (refused written.OutOfRange) ≡ agreed t
+        → cond b (cond c (agreed (plain 7 3 (figures_in (nat_abs z)) ++ (letter_of a (is_minus z) ∷ []))) (refused unwritten.NoRoom)) (refused unwritten.OutOfRange) ≡ agreed t
         → printable t ≡ true
     go true true h =
         let q : plain 7 3 (figures_in (nat_abs z)) ++ (letter_of a (is_minus z) ∷ []) ≡ t = cc in
@@ -137,11 +137,11 @@ grid_printed : (a : Axis) (w : ℕ) (d : DecimalOf) (t : List ℕ) → grid_in a
 unfolding grid_in
 grid_printed a w d t e = go (eqb w 0) (decimal_in (w - 1) d) refl e
   where
-    go : (b : Bool) (o : Option (List ℕ)) → decimal_in (w - 1) d ≡ o → cond b (refused written.NoRoom) (lettered (letter_of a false) o) ≡ agreed t
+    go : (b : Bool) (o : Option (List ℕ)) → decimal_in (w - 1) d ≡ o → cond b (refused unwritten.NoRoom) (lettered (letter_of a false) o) ≡ agreed t
         → printable t ≡ true
     go true o q h = absurd (never h)
-    go false none q h = absurd (never h)
-    go false (some u) q h =
+    go false None q h = absurd (never h)
+    go false (Some u) q h =
         let r : u ++ (letter_of a false ∷ []) ≡ t = cc in
         subst (λ (l : List ℕ). printable l ≡ true) r (both u (letter_of a false ∷ []) (decimal-printed (w - 1) d u q) (letter_printed a false))
 
@@ -220,7 +220,7 @@ module _ (w : ℕ) (t : List ℕ) where
   text_in-printed lead x e = go (printable x) refl (well_formed lead x) (leb (length x) w) e
     where
       go : (p : Bool) → printable x ≡ p → (f r : Bool)
-          → cond (not p) (refused written.Unprintable) (cond (not f) (refused written.Malformed) (cond r (agreed (x ++ replicate (w - length x) 32)) (refused written.NoRoom))) ≡ agreed t
+          → cond (not p) (refused unwritten.Unprintable) (cond (not f) (refused unwritten.Malformed) (cond r (agreed (x ++ replicate (w - length x) 32)) (refused unwritten.NoRoom))) ≡ agreed t
           → printable t ≡ true
       go true q true true h =
           let u : x ++ replicate (w - length x) 32 ≡ t = cc in

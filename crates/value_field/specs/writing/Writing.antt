@@ -1,6 +1,6 @@
 -- What an entry leaves in the columns of one field, for each of the paper's spellings.
-use Rattle.std.specs.Prelude.{ℕ, List, true, false, length, replicate}
-use Rattle.base_refusal.specs.declared.Written.TheVariants.{Malformed as Odd, OutOfRange as Outside, OtherKind}
+use Rattle.std.specs.Prelude.{ℕ, List, true, false, length, replicate, Result, Ok, Err}
+use Rattle.base_refusal.specs.declared.Unwritten.TheVariants.{Malformed as Odd, OutOfRange as Outside, OtherKind}
 use Rattle.base_digits.specs.digits.Columns.{Entry, agreed, refused, room_of}
 use Rattle.value_number.specs.number_entry.Spelling.{decimal_in}
 use Rattle.value_date.specs.Dates.{date_in}
@@ -10,11 +10,11 @@ use Rattle.value_coordinate.specs.coordinate_entry.Plotting.{angle_in, grid_in}
 use Rattle.value_text.specs.text.Texts.{text_of, text_in}
 use Rattle.base_value.specs.declared.Value.{Value}
 use Rattle.base_value.specs.declared.Value.TheVariants.{Absent, Whole, Decimal, Angle, Date, Text}
-use Rattle.base_value.specs.declared.Reading.{Reading}
-use Rattle.base_value.specs.declared.Reading.TheVariants.{Held, Malformed, OutOfRange}
+use Rattle.base_value.specs.declared.Unread.TheVariants.{Malformed, OutOfRange}
 use Rattle.value_field.specs.declared.spelling.Spelling.{Spelling}
 use Rattle.value_field.specs.declared.spelling.Spelling.TheVariants as spelled
 use Rattle.value_field.specs.spelling.Reading.{reading_of}
+use Rattle.base_value.specs.declared.Unread.{Unread}
 
 -- an absent value blanks the field
 abbrev pub blanked : ℕ → Entry
@@ -95,15 +95,15 @@ text_entry_of spelled.Northing w t = refused OtherKind
 text_entry_of spelled.Easting w t = refused OtherKind
 
 -- what was read, as an entry into the same columns
-unfoldable pub again_in : Spelling → List ℕ → Reading → Entry
-again_in k s Malformed = refused Odd
-again_in k s OutOfRange = refused Outside
-again_in k s (Held Absent) = entry_of k (length s) Absent
-again_in k s (Held (Whole z)) = entry_of k (length s) (Whole z)
-again_in k s (Held (Decimal d)) = entry_of k (length s) (Decimal d)
-again_in k s (Held (Angle z)) = entry_of k (length s) (Angle z)
-again_in k s (Held (Date d)) = entry_of k (length s) (Date d)
-again_in k s (Held (Text c)) = text_entry_of k (length s) (text_of s)
+unfoldable pub again_in : Spelling → List ℕ → Result Value Unread → Entry
+again_in k s (Err Malformed) = refused Odd
+again_in k s (Err OutOfRange) = refused Outside
+again_in k s (Ok Absent) = entry_of k (length s) Absent
+again_in k s (Ok (Whole z)) = entry_of k (length s) (Whole z)
+again_in k s (Ok (Decimal d)) = entry_of k (length s) (Decimal d)
+again_in k s (Ok (Angle z)) = entry_of k (length s) (Angle z)
+again_in k s (Ok (Date d)) = entry_of k (length s) (Date d)
+again_in k s (Ok (Text c)) = text_entry_of k (length s) (text_of s)
 
 -- the columns of a field, rewritten
 unfoldable pub rewritten_of : Spelling → List ℕ → Entry

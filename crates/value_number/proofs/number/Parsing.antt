@@ -15,13 +15,15 @@ use borrow.Author.Tests.{eq-eqb, ne_eqb, lt-ltb, le-ltb}
 use Rattle.base_digits.specs.declared.digits.Run.{Run}
 use Rattle.base_digits.specs.digits.Figures.{blanks, unpadded, leading, behind, value_from, limit, capped, run_of}
 use Rattle.base_digits.proofs.digits.Walk.{cap_early, value_append, all-leading}
-use Rattle.value_number.specs.declared.number.Figures.{Figures}
-use Rattle.value_number.specs.declared.number.Figures.TheVariants.{Units, Not}
 use Rattle.base_value.specs.declared.Value.TheVariants.{Absent, Decimal}
-use Rattle.base_value.specs.declared.Reading.{Reading}
-use Rattle.base_value.specs.declared.Reading.TheVariants.{Held, Malformed, OutOfRange}
+use Rattle.base_value.specs.declared.Unread.TheVariants.{Malformed, OutOfRange}
 use Rattle.value_number.specs.number.Reading.{counted_of, units_of, point_of, figures_of, held_of, sign_of, sign_at, number_of}
 use Rattle.base_digits.specs.signs.Signs.{signed_of}
+use Rattle.std.specs.Prelude.{Result, Ok, Err, Option, Some, None}
+use Rattle.base_value.specs.declared.Unread.{Unread}
+use Rattle.base_value.specs.declared.Value.{Value}
+use Rattle.value_number.specs.declared.number.Figures.{Figures}
+use Rattle.value_number.specs.number.Figures.{figures}
 
 -- nothing stands behind the digits
 ended : (t : List ℕ) → length (leading t) ≡ length t → behind t ≡ []
@@ -48,21 +50,21 @@ module _ (t : List ℕ) (r : Run) (e : r ≡ run_of 0 t) where
     found : behind t ≡ get_or t r.count 0 ∷ drop (r.count + 1) t
     found = rw count-is (goes_on_lem t (rw count-is at more))
 
-    pub figures_no_point_in_whole : (pointed : Bool) → pointed ≡ false → Not ≡ figures_of pointed t
+    pub figures_no_point_in_whole : (pointed : Bool) → pointed ≡ false → None ≡ figures_of pointed t
     unfolding figures_of point_of
     figures_no_point_in_whole pointed q = rw (q, found)
 
-    pub figures_other-byte : (pointed : Bool) → (get_or t r.count 0 ≡ 46 → ⊥) → Not ≡ figures_of pointed t
+    pub figures_other-byte : (pointed : Bool) → (get_or t r.count 0 ≡ 46 → ⊥) → None ≡ figures_of pointed t
     unfolding figures_of point_of
     figures_other-byte pointed h = rw (found, ne_eqb (get_or t r.count 0) 46 h) (never pointed)
       where
-        never : (pointed : Bool) → Not ≡ cond (pointed && false) (units_of (leading t) (drop (r.count + 1) t)) Not
+        never : (pointed : Bool) → None ≡ cond (pointed && false) (units_of (leading t) (drop (r.count + 1) t)) None
         never true = refl
         never false = refl
 
     module _ (b : Run) (d : b ≡ run_of r.number (drop (r.count + 1) t)) (point : get_or t r.count 0 ≡ 46) (pointed : Bool)
         (q : pointed ≡ true) where
-      pub figures_odd_places : (b.count ≡ length (drop (r.count + 1) t) → ⊥) → Not ≡ figures_of pointed t
+      pub figures_odd_places : (b.count ≡ length (drop (r.count + 1) t) → ⊥) → None ≡ figures_of pointed t
       unfolding figures_of point_of
       figures_odd_places h =
           rw (q, found, eq-eqb (get_or t r.count 0) 46 point, ne_eqb (length (leading (drop (r.count + 1) t))) (length (drop (r.count + 1) t)) (λ q. h (ap (λ (x : Run). x.count) d ∙ q)))
@@ -85,22 +87,22 @@ module _ (t : List ℕ) (r : Run) (e : r ≡ run_of 0 t) where
               ∙ ap capped (sym (value_append 0 (leading t) (drop (r.count + 1) t)))
 
 -- an unsigned number with its sign
-module _ (minus : Bool) (f : Figures) where
-  pub held-not : f ≡ Not → Malformed ≡ held_of minus f
+module _ (minus : Bool) (f : Option Figures) where
+  pub held-not : f ≡ None → (Err Malformed) ≡ held_of minus f
   unfolding held_of
   held-not q = rw q
 
-  module _ (n p : ℕ) (q : f ≡ Units n p) where
-    pub held_units : (z : ℤ) → z ≡ signed_of minus n → n < limit → Held (Decimal (record { units = z; places = p })) ≡ held_of minus f
+  module _ (n p : ℕ) (q : f ≡ Some (figures n p)) where
+    pub held_units : (z : ℤ) → z ≡ signed_of minus n → n < limit → Ok (Decimal (record { units = z; places = p })) ≡ held_of minus f
     unfolding held_of
-    held_units z e h = rw (q, lt-ltb n limit h) (ap (λ (y : ℤ). Held (Decimal (record { units = y; places = p }))) e)
+    held_units z e h = rw (q, lt-ltb n limit h) (ap (λ (y : ℤ). Ok (Decimal (record { units = y; places = p }))) e)
 
-    pub held_large : limit ≤ n → OutOfRange ≡ held_of minus f
+    pub held_large : limit ≤ n → (Err OutOfRange) ≡ held_of minus f
     unfolding held_of
     held_large h = rw (q, le-ltb n limit h)
 
 module _ (pointed : Bool) (s : List ℕ) (at : ℕ) (e : at ≡ blanks s) where
-  pub number_absent : at ≡ length s → Held Absent ≡ number_of pointed s
+  pub number_absent : at ≡ length s → Ok Absent ≡ number_of pointed s
   unfolding number_of unpadded sign_of
   number_absent h = let k : length s ≤ blanks s = omega arith in rw (drop_of_length-le s k)
 
@@ -137,6 +139,6 @@ number-signed pointed s at e h = elim (ℕ_discrete (get_or s at 0) 45) [
 
 -- the same by its parts
 pub number_by : (pointed : Bool) (s : List ℕ) (at k : ℕ) → at ≡ blanks s → at < length s → k ≡ sign_at (get_or s at 0)
-    → (f : Figures) → f ≡ figures_of pointed (drop (at + k) s) → (n : Reading) → n ≡ held_of (eqb (get_or s at 0) 45) f → n ≡ number_of pointed s
+    → (f : Option Figures) → f ≡ figures_of pointed (drop (at + k) s) → (n : Result Value Unread) → n ≡ held_of (eqb (get_or s at 0) 45) f → n ≡ number_of pointed s
 number_by pointed s at k e h q f a n b =
     b ∙ ap (held_of (eqb (get_or s at 0) 45)) (a ∙ ap (λ (j : ℕ). figures_of pointed (drop (at + j) s)) q) ∙ number-signed pointed s at e h

@@ -5,7 +5,6 @@ use native.Mathlib.Nat.{zero-add, add-zero, one-mul, lt_of_lt_of_le, mul-le-mul_
 use mathlib.Core.Path.{◌≡◌, refl, sym, ap, subst, ◌∙◌}
 use mathlib.Core.List.{List, [], ◌∷◌, ◌++◌, append-nil}
 use mathlib.Core.Bool.{Bool, true, false, cond, ◌&&◌}
-use mathlib.Core.Option.{Option, none, some}
 use lib.ListN.{length, drop, length-append, length-drop, take-append-drop}
 use lib.Dec.{eqb, ltb}
 use lib.Pow.{pow-add}
@@ -18,23 +17,25 @@ use Rattle.base_digits.proofs.digits.Bools.{and_right}
 use Rattle.base_digits.proofs.digits.Walk.{value_append, leading-take, all-leading}
 use Rattle.base_digits.proofs.digits.Numbers.{value_below, size_le}
 use Rattle.base_value.specs.declared.Decimal.{Decimal}
-use Rattle.value_number.specs.declared.number.Figures.{Figures}
-use Rattle.value_number.specs.declared.number.Figures.TheVariants.{Units, Not}
 use Rattle.base_value.specs.declared.Value.TheVariants as value
-use Rattle.base_value.specs.declared.Reading.TheVariants.{Held, OutOfRange}
+use Rattle.base_value.specs.declared.Unread.TheVariants.{OutOfRange}
 use Rattle.value_number.specs.number.Reading.{all_digits, counted_of, units_of, point_of, figures_of, held_of, sign_of, number_of}
-use Rattle.base_digits.specs.signs.Signs.{signed_of}
-use Rattle.base_digits.specs.signs.Signs.{is_minus}
+use Rattle.base_digits.specs.signs.Signs.{signed_of, is_minus}
 use Rattle.value_number.specs.number_entry.Spelling.{sign_columns, point_columns, units_in, decimal_in}
 use Rattle.value_number.proofs.number_entry.Writing.{adjusted_some, full_in, least_in}
+use Rattle.std.specs.Prelude.{Ok, Err, Some, None, Option}
+use Rattle.value_number.specs.declared.number.Figures.{Figures}
+use Rattle.value_number.specs.number.Figures.{figures}
 
 -- digits that were counted
-counted_is : (c m q n p : ℕ) → counted_of c m q ≡ Units n p → (1 ≤ c) × (m ≡ n) × (q ≡ p)
+counted_is : (c m q n p : ℕ) → counted_of c m q ≡ Some (figures n p) → (1 ≤ c) × (m ≡ n) × (q ≡ p)
 counted_is c m q n p e = go (eqb c 0) refl e
   where
-    go : (b : Bool) → eqb c 0 ≡ b → cond b Not (Units m q) ≡ Units n p → (1 ≤ c) × (m ≡ n) × (q ≡ p)
+    go : (b : Bool) → eqb c 0 ≡ b → cond b None (Some (figures m q)) ≡ Some (figures n p) → (1 ≤ c) × (m ≡ n) × (q ≡ p)
     go true z h = let x : ◌≡◌ {A = ℕ} 0 1 = cc in absurd (omega arith)
-    go false z h = let some : c ≡ 0 → ⊥ = eqb-false c 0 z in (omega arith, cc, cc)
+    go false z h = let some : c ≡ 0 → ⊥ = eqb-false c 0 z in
+        let x : figures m q ≡ figures n p = cc in
+        (omega arith, ap (λ (f : Figures). f.units) x, ap (λ (f : Figures). f.places) x)
 
 -- what stood in the columns of an unsigned number: k digits before the point, and p behind it, hold it
 pub record Stood (width n p : ℕ) : Type 0 where
@@ -60,7 +61,7 @@ module _ (u : List ℕ) where
   front_below = rw (one-mul (10 ^ length (leading u))) at (rw (zero-add 1) at (value_below 0 u))
 
   -- nothing behind the digits
-  stood_whole : (n p : ℕ) → units_of (leading u) [] ≡ Units n p → Stood (length u) n p
+  stood_whole : (n p : ℕ) → units_of (leading u) [] ≡ Some (figures n p) → Stood (length u) n p
   stood_whole n p h =
       let x = counted_is (length (leading u) + 0) (capped (value_from 0 (leading u ++ []))) 0 n p h in
       let v : capped (value_from 0 (leading u)) ≡ n = ap (λ (l : List ℕ). capped (value_from 0 l)) (sym (append-nil (leading u))) ∙ x.1 in
@@ -80,7 +81,7 @@ module _ (u : List ℕ) where
       rw (value_append 0 (leading u) b, pow-add 10 (length (leading u)) (length b))
       (lt_of_lt_of_le h (mul-le-mul_right (10 ^ length b) (omega arith)))
 
-  stood_pointed : (c : ℕ) (b : List ℕ) → behind u ≡ c ∷ b → all_digits b ≡ true → (n p : ℕ) → units_of (leading u) b ≡ Units n p
+  stood_pointed : (c : ℕ) (b : List ℕ) → behind u ≡ c ∷ b → all_digits b ≡ true → (n p : ℕ) → units_of (leading u) b ≡ Some (figures n p)
       → Stood (length u) n p
   stood_pointed c b q d n p h =
       let x = counted_is (length (leading u) + length b) (capped (value_from 0 (leading u ++ b))) (length b) n p h in
@@ -91,16 +92,16 @@ module _ (u : List ℕ) where
       subst (λ q. Stood (length u) n q) x.2
       (record { before = length (leading u); room = omega arith; digit = x.0; below = omega arith })
 
-  pub figures_stood : (point : Bool) (n p : ℕ) → figures_of point u ≡ Units n p → Stood (length u) n p
+  pub figures_stood : (point : Bool) (n p : ℕ) → figures_of point u ≡ Some (figures n p) → Stood (length u) n p
   unfolding figures_of point_of
   figures_stood point n p e = go (behind u) refl e
     where
       test : (c : ℕ) (b : List ℕ) → behind u ≡ c ∷ b → (t : Bool) → (point && (eqb c 46 && all_digits b)) ≡ t
-          → cond t (units_of (leading u) b) Not ≡ Units n p → Stood (length u) n p
+          → cond t (units_of (leading u) b) None ≡ Some (figures n p) → Stood (length u) n p
       test c b q true z h = stood_pointed c b q (and_right (eqb c 46) (all_digits b) (and_right point (eqb c 46 && all_digits b) z)) n p h
       test c b q false z h = let x : ◌≡◌ {A = ℕ} 0 1 = cc in absurd (omega arith)
 
-      go : (r : List ℕ) → behind u ≡ r → point_of point (leading u) r ≡ Units n p → Stood (length u) n p
+      go : (r : List ℕ) → behind u ≡ r → point_of point (leading u) r ≡ Some (figures n p) → Stood (length u) n p
       go [] q h = stood_whole n p h
       go (c ∷ b) q h = test c b q (point && (eqb c 46 && all_digits b)) refl h
 
@@ -115,29 +116,29 @@ pub record Read (width : ℕ) (d : Decimal) : Type 0 where
   pub is : d.units ≡ signed_of minus number
 
 held-read : (minus point : Bool) (u : List ℕ) (width : ℕ) (d : Decimal) → sign_columns minus + length u ≤ width
-    → held_of minus (figures_of point u) ≡ Held (value.Decimal d) → Read width d
+    → held_of minus (figures_of point u) ≡ Ok (value.Decimal d) → Read width d
 unfolding held_of
 held-read minus point u width d w e = go (figures_of point u) refl e
   where
-    test : (n p : ℕ) → figures_of point u ≡ Units n p → (t : Bool) → ltb n limit ≡ t
-        → cond t (Held (value.Decimal (record { units = signed_of minus n; places = p }))) OutOfRange ≡ Held (value.Decimal d) → Read width d
+    test : (n p : ℕ) → figures_of point u ≡ Some (figures n p) → (t : Bool) → ltb n limit ≡ t
+        → cond t (Ok (value.Decimal (record { units = signed_of minus n; places = p }))) (Err OutOfRange) ≡ Ok (value.Decimal d) → Read width d
     test n p q true z h =
         let e : ◌≡◌ {A = Decimal} (record { units = signed_of minus n; places = p }) d = cc in
         subst (λ (x : Decimal). Read width x) e
         (record { minus = minus; number = n; columns = length u; within = w; stood = figures_stood u point n p q; small = ltb-true n limit z; is = refl })
     test n p q false z h = let x : ◌≡◌ {A = ℕ} 0 1 = cc in absurd (omega arith)
 
-    go : (f : Figures) → figures_of point u ≡ f → held_of minus f ≡ Held (value.Decimal d) → Read width d
-    go Not q h = let x : ◌≡◌ {A = ℕ} 0 1 = cc in absurd (omega arith)
-    go (Units n p) q h = test n p q (ltb n limit) refl h
+    go : (f : Option Figures) → figures_of point u ≡ f → held_of minus f ≡ Ok (value.Decimal d) → Read width d
+    go None q h = let x : ◌≡◌ {A = ℕ} 0 1 = cc in absurd (omega arith)
+    go (Some f) q h = test f.units f.places q (ltb f.units limit) refl h
 
-sign_read : (point : Bool) (v : List ℕ) (d : Decimal) → sign_of point v ≡ Held (value.Decimal d) → Read (length v) d
+sign_read : (point : Bool) (v : List ℕ) (d : Decimal) → sign_of point v ≡ Ok (value.Decimal d) → Read (length v) d
 unfolding sign_of
 sign_read point [] d e = let x : ◌≡◌ {A = ℕ} 0 1 = cc in absurd (omega arith)
 sign_read point (b ∷ t) d e = go (eqb b 45) (eqb b 43) e
   where
     go : (x y : Bool)
-        → cond x (held_of true (figures_of point t)) (cond y (held_of false (figures_of point t)) (held_of false (figures_of point (b ∷ t)))) ≡ Held (value.Decimal d)
+        → cond x (held_of true (figures_of point t)) (cond y (held_of false (figures_of point t)) (held_of false (figures_of point (b ∷ t)))) ≡ Ok (value.Decimal d)
         → Read (suc (length t)) d
     go true y h = held-read true point t (suc (length t)) d (omega arith) h
     go false true h = held-read false point t (suc (length t)) d (omega arith) h
@@ -177,17 +178,17 @@ module _ (w : ℕ) (d : Decimal) (r : Read w d) where
       let c : k + point_columns p ≤ r.columns = r.stood.room in
       omega arith
 
-  pub units_agreed : (t : List ℕ) × (units_in w (is_minus d.units) d.places (nat_abs d.units) ≡ some t)
+  pub units_agreed : (t : List ℕ) × (units_in w (is_minus d.units) d.places (nat_abs d.units) ≡ Some t)
   unfolding units_in
   units_agreed = go (full_in w (is_minus d.units) d.places (nat_abs d.units))
     where
-      go : (a : Option (List ℕ)) → (t : List ℕ) × (or_else a (least_in w (is_minus d.units) d.places (nat_abs d.units)) ≡ some t)
-      go (some t) = (t, refl)
-      go none = (_, adjusted_some w (is_minus d.units) _ d.places (nat_abs d.units) _ refl narrow)
+      go : (a : Option (List ℕ)) → (t : List ℕ) × (or_else a (least_in w (is_minus d.units) d.places (nat_abs d.units)) ≡ Some t)
+      go (Some t) = (t, refl)
+      go None = (_, adjusted_some w (is_minus d.units) _ d.places (nat_abs d.units) _ refl narrow)
 
 -- what was read as a number can be written wherever its columns have room
-pub decimal-agreed : (point : Bool) (s : List ℕ) (d : Decimal) → number_of point s ≡ Held (value.Decimal d) → (w : ℕ) → length s ≤ w
-    → (t : List ℕ) × (decimal_in w d ≡ some t)
+pub decimal-agreed : (point : Bool) (s : List ℕ) (d : Decimal) → number_of point s ≡ Ok (value.Decimal d) → (w : ℕ) → length s ≤ w
+    → (t : List ℕ) × (decimal_in w d ≡ Some t)
 unfolding number_of unpadded decimal_in
 decimal-agreed point s d e w h =
     let small : length (drop (blanks s) s) ≤ w = rw (length-drop (blanks s) s) (omega arith) in
@@ -200,42 +201,42 @@ decimal-agreed point s d e w h =
         let b : sign_columns r.minus + r.columns ≤ v = r.within in
         record { minus = r.minus; number = r.number; columns = r.columns; within = omega arith; stood = r.stood; small = r.small; is = r.is }
 
-figures_places : (u : List ℕ) (n p : ℕ) → figures_of false u ≡ Units n p → p ≡ 0
+figures_places : (u : List ℕ) (n p : ℕ) → figures_of false u ≡ Some (figures n p) → p ≡ 0
 unfolding figures_of point_of
 figures_places u n p e = go (behind u) e
   where
-    go : (r : List ℕ) → point_of false (leading u) r ≡ Units n p → p ≡ 0
+    go : (r : List ℕ) → point_of false (leading u) r ≡ Some (figures n p) → p ≡ 0
     go [] h = sym (counted_is (length (leading u) + 0) (capped (value_from 0 (leading u ++ []))) 0 n p h).2
     go (c ∷ b) h = let x : ◌≡◌ {A = ℕ} 0 1 = cc in absurd (omega arith)
 
-held-places : (minus : Bool) (u : List ℕ) (d : Decimal) → held_of minus (figures_of false u) ≡ Held (value.Decimal d) → d.places ≡ 0
+held-places : (minus : Bool) (u : List ℕ) (d : Decimal) → held_of minus (figures_of false u) ≡ Ok (value.Decimal d) → d.places ≡ 0
 unfolding held_of
 held-places minus u d e = go (figures_of false u) refl e
   where
-    test : (n p : ℕ) → figures_of false u ≡ Units n p → (t : Bool)
-        → cond t (Held (value.Decimal (record { units = signed_of minus n; places = p }))) OutOfRange ≡ Held (value.Decimal d) → d.places ≡ 0
+    test : (n p : ℕ) → figures_of false u ≡ Some (figures n p) → (t : Bool)
+        → cond t (Ok (value.Decimal (record { units = signed_of minus n; places = p }))) (Err OutOfRange) ≡ Ok (value.Decimal d) → d.places ≡ 0
     test n p q true h =
         let e : ◌≡◌ {A = Decimal} (record { units = signed_of minus n; places = p }) d = cc in
         sym (ap (λ (x : Decimal). x.places) e) ∙ figures_places u n p q
     test n p q false h = let x : ◌≡◌ {A = ℕ} 0 1 = cc in absurd (omega arith)
 
-    go : (f : Figures) → figures_of false u ≡ f → held_of minus f ≡ Held (value.Decimal d) → d.places ≡ 0
-    go Not q h = let x : ◌≡◌ {A = ℕ} 0 1 = cc in absurd (omega arith)
-    go (Units n p) q h = test n p q (ltb n limit) h
+    go : (f : Option Figures) → figures_of false u ≡ f → held_of minus f ≡ Ok (value.Decimal d) → d.places ≡ 0
+    go None q h = let x : ◌≡◌ {A = ℕ} 0 1 = cc in absurd (omega arith)
+    go (Some f) q h = test f.units f.places q (ltb f.units limit) h
 
-sign-places : (v : List ℕ) (d : Decimal) → sign_of false v ≡ Held (value.Decimal d) → d.places ≡ 0
+sign-places : (v : List ℕ) (d : Decimal) → sign_of false v ≡ Ok (value.Decimal d) → d.places ≡ 0
 unfolding sign_of
 sign-places [] d e = let x : ◌≡◌ {A = ℕ} 0 1 = cc in absurd (omega arith)
 sign-places (b ∷ t) d e = go (eqb b 45) (eqb b 43) e
   where
     go : (x y : Bool)
-        → cond x (held_of true (figures_of false t)) (cond y (held_of false (figures_of false t)) (held_of false (figures_of false (b ∷ t)))) ≡ Held (value.Decimal d)
+        → cond x (held_of true (figures_of false t)) (cond y (held_of false (figures_of false t)) (held_of false (figures_of false (b ∷ t)))) ≡ Ok (value.Decimal d)
         → d.places ≡ 0
     go true y h = held-places true t d h
     go false true h = held-places false t d h
     go false false h = held-places false (b ∷ t) d h
 
 -- a whole number has no places
-pub whole-places : (s : List ℕ) (d : Decimal) → number_of false s ≡ Held (value.Decimal d) → d.places ≡ 0
+pub whole-places : (s : List ℕ) (d : Decimal) → number_of false s ≡ Ok (value.Decimal d) → d.places ≡ 0
 unfolding number_of
 whole-places s d e = sign-places (unpadded s) d e

@@ -3,7 +3,6 @@ use Prim.Native.Nat.{ℕ, zero, suc, ◌+◌, ◌-◌, ◌/◌, ◌^◌, ◌≤�
 use native.Mathlib.Omega.{arith}
 use native.Mathlib.Numerals.{add-one, one-add}
 use mathlib.Core.Path.{◌≡◌, refl, sym, ap, ap₂, ◌∙◌}
-use mathlib.Core.Option.{Option, none, some}
 use native.Mathlib.Nat.{sub-zero, zero-add, add-zero}
 use borrow.Author.Tests.{le-leb, lt-leb, le-ltb, lt-ltb}
 use mathlib.Core.List.{List, [], ◌∷◌, ◌++◌}
@@ -21,6 +20,7 @@ use Rattle.base_digits.proofs.digits.Answers.{or-first, or-second}
 use Rattle.base_digits.proofs.digits.Parts.{rest_length, put_rest, put_length, placed}
 use Rattle.value_number.specs.number_entry.Spelling.{sign, sign_columns, point_columns, pointed, plain, plain_in, spelled, units_in, decimal_in}
 use Rattle.base_digits.specs.signs.Signs.{is_minus}
+use Rattle.std.specs.Prelude.{Option, None, Some}
 
 -- the columns with t from place k + 1 on and a point before it
 module _ (k : ℕ) (s t : List ℕ) (inside : k < length s) (same : length t ≡ length (take (length s - (k + 1)) (drop (k + 1) s))) where
@@ -59,15 +59,15 @@ point_some zero h = absurd (h refl)
 point_some (suc p) h = sym (add-one (suc p))
 
 module _ (w p n : ℕ) where
-  pub plain-whole : p ≡ 0 → plain_in w p n ≡ some (digits w n)
+  pub plain-whole : p ≡ 0 → plain_in w p n ≡ Some (digits w n)
   unfolding plain_in plain
-  plain-whole h = rw (h, le-leb 0 w (omega arith)) (ap (λ k. some (digits k n)) (sub-zero w))
+  plain-whole h = rw (h, le-leb 0 w (omega arith)) (ap (λ k. Some (digits k n)) (sub-zero w))
 
   module _ (point : p ≡ 0 → ⊥) where
     columns_are : point_columns p ≡ p + 1
     columns_are = point_some p point
 
-    pub plain_short : w ≤ p → plain_in w p n ≡ none
+    pub plain_short : w ≤ p → plain_in w p n ≡ None
     unfolding plain_in
     plain_short h = rw (lt-leb (point_columns p) w (rw columns_are (omega arith)))
 
@@ -79,16 +79,16 @@ module _ (w p n : ℕ) where
         by zero h = absurd (h refl)
         by (suc p) h = refl
 
-    pub plain-pointed : p < w → plain_in w p n ≡ some (pointed (w - (p + 1)) (w - (w - (p + 1) + 1)) n)
+    pub plain-pointed : p < w → plain_in w p n ≡ Some (pointed (w - (p + 1)) (w - (w - (p + 1) + 1)) n)
     unfolding plain_in
     plain-pointed h =
         rw (columns_are, le-leb (p + 1) w (omega arith), plain-is (w - (p + 1)))
-        (ap (λ k. some (pointed (w - (p + 1)) k n)) (omega arith))
+        (ap (λ k. Some (pointed (w - (p + 1)) k n)) (omega arith))
 
-  pub plain_exact : (k : ℕ) → w ≡ k + point_columns p → plain_in w p n ≡ some (plain k p n)
+  pub plain_exact : (k : ℕ) → w ≡ k + point_columns p → plain_in w p n ≡ Some (plain k p n)
   unfolding plain_in
   plain_exact k h =
-      rw (le-leb (point_columns p) w (omega arith)) (ap (λ m. some (plain m p n)) (omega arith))
+      rw (le-leb (point_columns p) w (omega arith)) (ap (λ m. Some (plain m p n)) (omega arith))
 
 -- the sign before the number
 sign-first : (s : List ℕ) → 1 ≤ length s → take 1 (set s 0 45) ≡ 45 ∷ []
@@ -129,12 +129,12 @@ spelled-length true k p n = ap suc (plain-length k p n) ∙ sym (one-add (k + po
 spelled-length false k p n = plain-length k p n ∙ sym (zero-add (k + point_columns p))
 
 module _ (w : ℕ) (minus : Bool) (k p n : ℕ) where
-  pub adjusted_none : w < sign_columns minus + (k + point_columns p) → right_adjusted w (spelled minus k p n) ≡ none
+  pub adjusted_none : w < sign_columns minus + (k + point_columns p) → right_adjusted w (spelled minus k p n) ≡ None
   unfolding right_adjusted
   adjusted_none h = rw (spelled-length minus k p n, lt-leb (sign_columns minus + (k + point_columns p)) w h)
 
   pub adjusted_some : (c : ℕ) → c ≡ sign_columns minus + (k + point_columns p) → c ≤ w
-      → right_adjusted w (spelled minus k p n) ≡ some (replicate (w - c) 32 ++ spelled minus k p n)
+      → right_adjusted w (spelled minus k p n) ≡ Some (replicate (w - c) 32 ++ spelled minus k p n)
   unfolding right_adjusted
   adjusted_some c e h = rw (spelled-length minus k p n, ← e, le-leb c w h)
 
@@ -149,7 +149,7 @@ adjusted_written s blanks t first h e =
     all = e ∙ ap (λ m. replicate m 32) (length-take-le first s h)
 
 -- more places than columns
-pub units_none : (w : ℕ) (minus : Bool) (p n : ℕ) → w < p → units_in w minus p n ≡ none
+pub units_none : (w : ℕ) (minus : Bool) (p n : ℕ) → w < p → units_in w minus p n ≡ None
 unfolding units_in
 units_none w minus p n h =
     rw (adjusted_none w minus (max (size n) (p + 1) - p) p n (omega (arith, wide)), adjusted_none w minus (max (size n) p - p) p n (omega (arith, wide)))
@@ -158,7 +158,7 @@ units_none w minus p n h =
     wide = point_some p (λ q. omega arith)
 
 module _ (w : ℕ) (d : Decimal) (n : ℕ) (e : n ≡ nat_abs d.units) where
-  pub decimal_large : limit ≤ n → decimal_in w d ≡ none
+  pub decimal_large : limit ≤ n → decimal_in w d ≡ None
   unfolding decimal_in
   decimal_large h = rw (← e, le-ltb n limit h)
 

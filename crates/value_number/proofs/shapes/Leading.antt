@@ -1,40 +1,36 @@
 -- A walk over the digits at the front, and what is known where it ends.
-use Prim.Native.Nat.{ℕ, ◌+◌, ◌≤◌, ◌<◌}
+use Prim.Native.Nat.{ℕ, ◌+◌, ◌<◌}
 use native.Mathlib.Omega.{arith}
-use native.Mathlib.Numerals.{add-one}
-use native.Mathlib.Nat.{add-zero}
 use mathlib.Core.Path.{◌≡◌, refl, sym, ap, ◌∙◌}
-use mathlib.Core.List.{List}
+use mathlib.Core.List.{List, [], ◌∷◌}
+use Rattle.std.specs.List.{prefix_len}
 use mathlib.Core.Bool.{Bool, true, false, cond, not}
 use lib.Dec.{eqb}
-use lib.ListN.{length, get_or, drop, drop_of_length-le}
-use lib.Seq.{drop-cons}
+use lib.ListN.{length, get_or, drop}
 use borrow.Author.Tests.{eq-eqb, ne_eqb}
 use Rattle.base_digits.specs.digits.Figures.{is_digit, leading, run_of}
-use Rattle.value_number.specs.declared.number.Figures.TheVariants.{Units, Not}
 use Rattle.value_number.specs.number.Reading.{counted_of, figures_of}
 use Rattle.value_number.proofs.number.Parsing.{figures_whole, figures_no_point_in_whole, figures_other-byte, figures_odd_places, figures_places}
 use Rattle.value_number.specs.packed.Shapes.{is_units, mark_in}
+use Rattle.std.specs.Prelude.{Some, None}
+use Rattle.value_number.specs.number.Figures.{figures}
 
-module _ (i : ℕ) (s : List ℕ) where
-  pub lead_stop : i < length s → is_digit (get_or s i 0) ≡ false → i ≡ i + length (leading (drop i s))
-  unfolding leading
-  lead_stop inside d = rw (drop-cons s i 0 inside, d) (sym (add-zero i))
-
-  pub lead_go : i < length s → is_digit (get_or s i 0) ≡ true → i + length (leading (drop i s)) ≡ i + 1 + length (leading (drop (i + 1) s))
-  unfolding leading
-  lead_go inside d = rw (drop-cons s i 0 inside, d, add-one i) (omega arith)
-
-  pub lead_end : length s ≤ i → i ≡ i + length (leading (drop i s))
-  unfolding leading
-  lead_end e = rw (drop_of_length-le s e) (sym (add-zero i))
+-- how many digits stand at the front, as an iterator takes them
+pub leading_are : (s : List ℕ) → prefix_len is_digit s ≡ length (leading s)
+unfolding leading
+leading_are [] = refl
+leading_are (b ∷ s) = go (is_digit b) (leading_are s)
+  where
+    go : (t : Bool) → prefix_len is_digit s ≡ length (leading s) → cond t (1 + prefix_len is_digit s) 0 ≡ length (cond t (b ∷ leading s) [])
+    go true e = omega (arith, e)
+    go false e = refl
 
 -- a decimal, by how many digits stand before the point and behind it
 
 counted_units : (c n p : ℕ) → not (eqb c 0) ≡ is_units (counted_of c n p)
 counted_units c n p = go (eqb c 0)
   where
-    go : (b : Bool) → not b ≡ is_units (cond b Not (Units n p))
+    go : (b : Bool) → not b ≡ is_units (cond b None (Some (figures n p)))
     go true = refl
     go false = refl
 

@@ -16,21 +16,23 @@ use Rattle.base_digits.proofs.digits.Numbers.{value_below}
 use Rattle.base_digits.proofs.digits.Bools.{and_right}
 use Rattle.base_digits.specs.signs.Signs.{signed_of}
 use Rattle.base_value.specs.declared.Value.TheVariants.{Absent, Whole, Decimal, Angle, Date, Text}
-use Rattle.base_value.specs.declared.Reading.{Reading}
-use Rattle.base_value.specs.declared.Reading.TheVariants.{Held, Malformed, OutOfRange}
-use Rattle.value_number.specs.declared.number.Figures.{Figures}
-use Rattle.value_number.specs.declared.number.Figures.TheVariants.{Units, Not}
+use Rattle.base_value.specs.declared.Unread.TheVariants.{Malformed, OutOfRange}
 use Rattle.value_number.specs.number.Reading.{all_digits, counted_of, units_of, point_of, figures_of, held_of, sign_of, number_of}
+use Rattle.std.specs.Prelude.{Result, Ok, Err, Option, Some, None}
+use Rattle.base_value.specs.declared.Unread.{Unread}
+use Rattle.base_value.specs.declared.Value.{Value}
+use Rattle.value_number.specs.declared.number.Figures.{Figures}
+use Rattle.value_number.specs.number.Figures.{figures}
 
 -- units below 10 ^ w, with at most w places
-abbrev pub Within : ℕ → Figures → Type 0
-Within w Not = Unit
-Within w (Units n p) = (n < 10 ^ w) × (p ≤ w)
+abbrev pub Within : ℕ → Option Figures → Type 0
+Within w None = Unit
+Within w (Some f) = (f.units < 10 ^ w) × (f.places ≤ w)
 
 counted-within : (w c n p : ℕ) → n < 10 ^ w → p ≤ w → Within w (counted_of c n p)
 counted-within w c n p h l = go (eqb c 0)
   where
-    go : (b : Bool) → Within w (cond b Not (Units n p))
+    go : (b : Bool) → Within w (cond b None (Some (figures n p)))
     go true = tt
     go false = (h, l)
 
@@ -72,47 +74,47 @@ figures_within w pointed t h = go (behind t) (behind_long t) (leads_within t)
     go [] e l = units_within w t [] refl (omega arith)
     go (c ∷ b) e l = pick (pointed && (eqb c 46 && all_digits b)) refl
       where
-        pick : (x : Bool) → pointed && (eqb c 46 && all_digits b) ≡ x → Within w (cond x (units_of (leading t) b) Not)
+        pick : (x : Bool) → pointed && (eqb c 46 && all_digits b) ≡ x → Within w (cond x (units_of (leading t) b) None)
         pick true q =
             let d : length (leading b) ≡ length b = eqb-true _ _ (and_right (eqb c 46) (all_digits b) (and_right pointed (eqb c 46 && all_digits b) q)) in
             units_within w t b (all-leading b d) (omega arith)
         pick false q = tt
 
 -- the same of eighteen columns
-abbrev pub Small : Figures → Type 0
-Small Not = Unit
-Small (Units n p) = n < limit
+abbrev pub Small : Option Figures → Type 0
+Small None = Unit
+Small (Some f) = f.units < limit
 
 pub figures_small : (pointed : Bool) (t : List ℕ) → length t ≤ 18 → Small (figures_of pointed t)
 figures_small pointed t h = go (figures_of pointed t) (figures_within 18 pointed t h)
   where
-    go : (f : Figures) → Within 18 f → Small f
-    go Not k = tt
-    go (Units n p) k = omega (arith, k.0)
+    go : (f : Option Figures) → Within 18 f → Small f
+    go None k = tt
+    go (Some f) k = omega (arith, k.0)
 
 -- the same of a number that was read
-abbrev pub Sized : ℕ → Reading → Type 0
-Sized w (Held (Decimal d)) = (nat_abs d.units < 10 ^ w) × (d.places ≤ w)
-Sized w (Held Absent) = Unit
-Sized w (Held (Whole z)) = Unit
-Sized w (Held (Angle z)) = Unit
-Sized w (Held (Date d)) = Unit
-Sized w (Held (Text c)) = Unit
-Sized w Malformed = Unit
-Sized w OutOfRange = Unit
+abbrev pub Sized : ℕ → Result Value Unread → Type 0
+Sized w (Ok (Decimal d)) = (nat_abs d.units < 10 ^ w) × (d.places ≤ w)
+Sized w (Ok Absent) = Unit
+Sized w (Ok (Whole z)) = Unit
+Sized w (Ok (Angle z)) = Unit
+Sized w (Ok (Date d)) = Unit
+Sized w (Ok (Text c)) = Unit
+Sized w (Err Malformed) = Unit
+Sized w (Err OutOfRange) = Unit
 
-held-sized : (w : ℕ) (minus : Bool) (f : Figures) → Within w f → Sized w (held_of minus f)
+held-sized : (w : ℕ) (minus : Bool) (f : Option Figures) → Within w f → Sized w (held_of minus f)
 unfolding held_of signed_of
-held-sized w minus Not k = tt
-held-sized w minus (Units n p) k = go (ltb n limit)
+held-sized w minus None k = tt
+held-sized w minus (Some f) k = go (ltb f.units limit)
   where
     size : (m : Bool) (n : ℕ) → nat_abs (signed_of m n) ≡ n
     size true zero = refl
     size true (suc n) = refl
     size false n = refl
 
-    go : (b : Bool) → Sized w (cond b (Held (Decimal (record { units = signed_of minus n; places = p }))) OutOfRange)
-    go true = (omega (arith, size minus n, k.0), k.1)
+    go : (b : Bool) → Sized w (cond b (Ok (Decimal (record { units = signed_of minus f.units; places = f.places }))) (Err OutOfRange))
+    go true = (omega (arith, size minus f.units, k.0), k.1)
     go false = tt
 
 -- a number of up to w columns has at most w digits

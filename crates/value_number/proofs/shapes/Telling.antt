@@ -10,27 +10,27 @@ use lib.ListN.{length, get_or, drop, length-drop}
 use borrow.Author.Tests.{ne_eqb, lt-ltb, le-ltb}
 use Rattle.base_digits.specs.signs.Signs.{signed_of}
 use Rattle.base_digits.specs.digits.Figures.{blanks, limit}
-use Rattle.value_number.specs.declared.number.Figures.{Figures}
-use Rattle.value_number.specs.declared.number.Figures.TheVariants.{Units, Not}
 use Rattle.value_number.specs.number.Reading.{figures_of, held_of, sign_at, number_of}
 use Rattle.value_number.proofs.number.Parsing.{number-signed}
 use Rattle.value_number.specs.packed.Shapes.{is_units, mark_in, size_by, sized, size_of}
 use Rattle.base_value.specs.Reading.{offence_of}
 use Rattle.value_number.proofs.shapes.Small.{Small, figures_small}
+use Rattle.std.specs.Prelude.{Option, Some, None}
+use Rattle.value_number.specs.declared.number.Figures.{Figures}
 
 -- its shape
-pub shape_held : (minus : Bool) (f : Figures) → Small f → cond (is_units f) 0 9 ≡ offence_of (held_of minus f)
+pub shape_held : (minus : Bool) (f : Option Figures) → Small f → cond (is_units f) 0 9 ≡ offence_of (held_of minus f)
 unfolding held_of
-shape_held minus Not h = refl
-shape_held minus (Units n p) h = rw (lt-ltb n limit h)
+shape_held minus None h = refl
+shape_held minus (Some f) h = rw (lt-ltb f.units limit h)
 
 -- its size
-pub size-held : (minus : Bool) (f : Figures) → size_by minus (mark_in f) ≡ size_of (held_of minus f)
+pub size-held : (minus : Bool) (f : Option Figures) → size_by minus (mark_in f) ≡ size_of (held_of minus f)
 unfolding held_of size_by signed_of
-size-held minus Not = refl
-size-held minus (Units n p) = elim (dec_lt n limit) [
-  | yes h ↦ rw (lt-ltb n limit h, ne_eqb (n + 1) 0 (λ e. omega arith), le-ltb limit (n + 1) (omega arith)) (below minus n)
-  | no h ↦ rw (le-ltb n limit (omega arith), ne_eqb (n + 1) 0 (λ e. omega arith), lt-ltb limit (n + 1) (omega arith))
+size-held minus None = refl
+size-held minus (Some f) = elim (dec_lt f.units limit) [
+  | yes h ↦ rw (lt-ltb f.units limit h, ne_eqb (f.units + 1) 0 (λ e. omega arith), le-ltb limit (f.units + 1) (omega arith)) (below minus f.units)
+  | no h ↦ rw (le-ltb f.units limit (omega arith), ne_eqb (f.units + 1) 0 (λ e. omega arith), lt-ltb limit (f.units + 1) (omega arith))
 ]
   where
     below : (minus : Bool) (n : ℕ) → cond (minus && not (eqb (n + 1) 1)) 3 (n + 1 + 3) ≡ sized (signed_of minus n)

@@ -1,6 +1,5 @@
 -- How a number is written into its columns: the one agreed spelling.
-use Rattle.std.specs.Prelude.{ℕ, zero, suc, ◌+◌, ◌-◌, ◌/◌, ◌^◌, max, List, [], ◌∷◌, ◌++◌, Bool, true, false, cond, leb, ltb, nat_abs}
-use Rattle.std.proofs.Math.Option.{Option, none, some}
+use Rattle.std.specs.Prelude.{ℕ, zero, suc, ◌+◌, ◌-◌, ◌/◌, ◌^◌, max, List, [], ◌∷◌, ◌++◌, Bool, true, false, cond, leb, ltb, nat_abs, Option, None, Some}
 use Rattle.base_digits.specs.digits.Figures.{limit}
 use Rattle.base_digits.specs.digits.Digits.{digits, size}
 use Rattle.base_digits.specs.digits.Columns.{right_adjusted, or_else}
@@ -31,7 +30,7 @@ plain k (suc p) n = pointed k (suc p) n
 
 -- the same in just w columns
 unfoldable pub plain_in : ℕ → ℕ → ℕ → Option (List ℕ)
-plain_in w p n = cond (leb (point_columns p) w) (some (plain (w - point_columns p) p n)) none
+plain_in w p n = cond (leb (point_columns p) w) (Some (plain (w - point_columns p) p n)) None
 
 -- a number with its sign
 unfoldable pub spelled : Bool → ℕ → ℕ → ℕ → List ℕ
@@ -46,4 +45,4 @@ units_in w minus p n =
 
 -- a decimal in w columns
 unfoldable pub decimal_in : ℕ → Decimal → Option (List ℕ)
-decimal_in w d = cond (ltb (nat_abs d.units) limit) (units_in w (is_minus d.units) d.places (nat_abs d.units)) none
+decimal_in w d = cond (ltb (nat_abs d.units) limit) (units_in w (is_minus d.units) d.places (nat_abs d.units)) None

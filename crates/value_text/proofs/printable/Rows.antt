@@ -9,7 +9,7 @@ use mathlib.Core.Bool.{true≢false, Bool, true, false, not, ◌&&◌}
 use lib.ListN.{length, get_or}
 use lib.Dec.{eqb}
 use Rattle.base_lists.proofs.Finding.{first-none}
-use borrow.Author.Tests.{ne_eqb, le-leb, lt-leb, eqb-true}
+use borrow.Author.Tests.{ne_eqb, le-leb, eqb-true}
 use Rattle.value_text.specs.printable.Bytes.{good_at, bad_at, first_bad}
 use Rattle.value_text.specs.packed.Rows.{good_to, good_card}
 
@@ -18,13 +18,7 @@ both true true e = (refl, refl)
 both true false e = (refl, e)
 both false b e = absurd (true≢false (sym e))
 
--- a byte that is printable, and one that is not
-pub bad_below : (s : List ℕ) (i : ℕ) → get_or s i 0 < 32 → bad_at s i ≡ true
-bad_below s i h = rw (lt-leb 32 (get_or s i 0) h)
-
-pub bad_above : (s : List ℕ) (i : ℕ) → 126 < get_or s i 0 → bad_at s i ≡ true
-bad_above s i h = rw (le-leb 32 (get_or s i 0) (omega arith), lt-leb (get_or s i 0) 126 h)
-
+-- a byte that is printable
 pub good_byte : (s : List ℕ) (i : ℕ) → 32 ≤ get_or s i 0 → get_or s i 0 ≤ 126 → bad_at s i ≡ false
 good_byte s i h k = rw (le-leb 32 (get_or s i 0) h, le-leb (get_or s i 0) 126 k)
 

@@ -9,7 +9,7 @@ use lib.Seq.{take-append_seam}
 use lib.Dec.{eqb, leb}
 use borrow.Author.Tests.{eqb-true, eqb-false, leb-true, not-true}
 use Rattle.base_digits.specs.digits.Columns.{agreed, refused}
-use Rattle.base_refusal.specs.declared.Written.TheVariants.{Unprintable, Malformed, NoRoom}
+use Rattle.base_refusal.specs.declared.Unwritten.TheVariants.{Unprintable, Malformed, NoRoom}
 use Rattle.base_digits.proofs.digits.Bools.{and_left, and_right}
 use Rattle.value_text.specs.text.Texts.{text_end, text_of, printable, leading_blank, well_formed, text_in}
 

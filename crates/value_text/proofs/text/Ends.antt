@@ -1,65 +1,57 @@
--- What each step of a walk over a text knows: from the back, where it ends; from the front, that it is printable, or copied.
-use Prim.Native.Nat.{ℕ, zero, suc, ◌+◌, ◌-◌, ◌≤◌, ◌<◌}
+-- Where a text ends, whether it is printable and well formed, and what putting it leaves in the columns.
+use Prim.Native.Nat.{ℕ, suc, ◌+◌, ◌-◌, ◌≤◌, ◌<◌}
 use native.Mathlib.Omega.{arith}
 use native.Mathlib.Numerals.{add-one}
 use mathlib.Core.Path.{◌≡◌, refl, sym, ap, ap₂, ◌∙◌}
-use mathlib.Core.List.{List, [], ◌∷◌, ◌++◌}
-use mathlib.Core.Bool.{Bool, true, false, ◌||◌, not}
-use lib.ListN.{length, get_or, take, drop, set, replicate, drop_of_length-le, length-append, length-drop}
+use mathlib.Core.List.{List, [], ◌∷◌, ◌++◌, reverse}
+use mathlib.Core.Bool.{Bool, true, false, cond, ◌&&◌, and_assoc}
+use lib.ListN.{length, get_or, take, drop, set, replicate, length-append, length-drop}
 use lib.Seq.{take-suc, drop-cons, length-take-le, set_at, append_snoc, take-append_seam}
-use lib.Dec.{eqb, eqb-suc-zero}
-use borrow.Author.Tests.{eq-eqb, ne_eqb, le-leb, lt-leb}
+use lib.Dec.{eqb, leb, eqb-suc-zero}
+use Rattle.std.specs.List.{prefix_len, list_all}
+use Rattle.std.proofs.lemmas.List.{reverse-append, length-reverse}
+use Rattle.std.proofs.lemmas.List.Folds.{prefix_len-append}
+use Rattle.std.proofs.lemmas.List.Sums.{prefix_len-le-length}
+use Rattle.std.proofs.lemmas.Bool.Decides.{nat_tests}
+use borrow.Author.Tests.{ne_eqb, le-leb, lt-leb}
 use borrow.Rule.Slice.PartMut.{put_mid}
-use Rattle.base_refusal.specs.declared.Written.TheVariants.{Unprintable, Malformed, NoRoom}
+use Rattle.base_refusal.specs.declared.Unwritten.TheVariants.{Unprintable, Malformed, NoRoom}
 use Rattle.base_digits.specs.digits.Columns.{agreed, refused}
 use Rattle.base_digits.proofs.digits.Parts.{put_rest, rest_length}
 use Rattle.value_text.specs.text.Texts.{text_end, printable, leading_blank, well_formed, text_in}
 
--- one more blank behind a text
-end_blank : (t : List ℕ) → text_end (t ++ (32 ∷ [])) ≡ text_end t
+-- a text ends where the blanks that stand at its end begin
+pub end_is : (s : List ℕ) → length s - prefix_len (λ b. eqb b 32) (reverse s) ≡ text_end s
 unfolding text_end
-end_blank [] = refl
-end_blank (x ∷ t) = rw (end_blank t)
+end_is [] = refl
+end_is (b ∷ s) =
+    let blank = λ (x : ℕ). eqb x 32 in
+    rw (reverse-append (b ∷ []) s, prefix_len-append blank (reverse s) (b ∷ []), length-reverse s)
+    (front (length s) (prefix_len blank (reverse s)) (text_end s) (eqb b 32) (rw length-reverse at (prefix_len-le-length blank (reverse s))) (end_is s))
+  where
+    front : (l p e : ℕ) (blank : Bool) → p ≤ l → l - p ≡ e → suc l - cond (eqb p l) (l + cond blank 1 0) p ≡ cond (eqb e 0 && blank) 0 (suc e)
+    front l p e true h q = grind (arith, nat_tests)
+    front l p e false h q = grind (arith, nat_tests)
 
--- one more byte that is none
+-- every byte printable, as an iterator asks
+pub printable_is : (s : List ℕ) → list_all (λ b. leb 32 b && leb b 126) s ≡ printable s
+unfolding printable
+printable_is [] = refl
+printable_is (b ∷ s) = rw (printable_is s) (and_assoc (leb 32 b) (leb b 126) (printable s))
+
+-- one more byte behind a text that is no blank
 end_byte : (t : List ℕ) (b : ℕ) → (b ≡ 32 → ⊥) → text_end (t ++ (b ∷ [])) ≡ suc (length t)
 unfolding text_end
 end_byte [] b h = rw (ne_eqb b 32 h)
 end_byte (x ∷ t) b h = rw (end_byte t b h, eqb-suc-zero (length t))
 
-module _ (i : ℕ) (s : List ℕ) (some : 0 < i) (inside : i ≤ length s) where
-  last : take i s ≡ take (i - 1) s ++ (get_or s (i - 1) 0 ∷ [])
-  last = let e : i ≡ suc (i - 1) = omega arith in ap (λ k. take k s) e ∙ take-suc s (i - 1) 0 (omega arith)
-
-  pub end_stops : (get_or s (i - 1) 0 ≡ 32 → ⊥) → text_end (take i s) ≡ i
-  end_stops h =
-      ap text_end last ∙ end_byte (take (i - 1) s) (get_or s (i - 1) 0) h
-      ∙ ap suc (length-take-le (i - 1) s (omega arith)) ∙ omega arith
-
-  pub end_goes : get_or s (i - 1) 0 ≡ 32 → text_end (take i s) ≡ text_end (take (i - 1) s)
-  end_goes h = ap text_end (last ∙ ap (λ b. take (i - 1) s ++ (b ∷ [])) h) ∙ end_blank (take (i - 1) s)
-
-pub end_over : (i : ℕ) (s : List ℕ) → i ≤ 0 → text_end (take i s) ≡ i
-unfolding text_end
-end_over zero s h = refl
-end_over (suc i) s h = absurd (omega arith)
-
-module _ (i : ℕ) (s : List ℕ) (inside : i < length s) where
-  pub below_stops : get_or s i 0 < 32 → printable (drop i s) ≡ false
-  unfolding printable
-  below_stops h = rw (drop-cons s i 0 inside, lt-leb 32 (get_or s i 0) h)
-
-  pub above_stops : 126 < get_or s i 0 → printable (drop i s) ≡ false
-  unfolding printable
-  above_stops h = rw (drop-cons s i 0 inside, le-leb 32 (get_or s i 0) (omega arith), lt-leb (get_or s i 0) 126 h)
-
-  pub printable_goes : 32 ≤ get_or s i 0 → get_or s i 0 ≤ 126 → printable (drop i s) ≡ printable (drop (i + 1) s)
-  unfolding printable
-  printable_goes h k = rw (drop-cons s i 0 inside, le-leb 32 (get_or s i 0) h, le-leb (get_or s i 0) 126 k, add-one i)
-
-pub printable-over : (i : ℕ) (s : List ℕ) → length s ≤ i → printable (drop i s) ≡ true
-unfolding printable
-printable-over i s h = rw (drop_of_length-le s h)
+-- what does not end in a blank ends there
+pub end_stops : (i : ℕ) (s : List ℕ) → 0 < i → i ≤ length s → (get_or s (i - 1) 0 ≡ 32 → ⊥) → text_end (take i s) ≡ i
+end_stops i s some inside h =
+    let e : i ≡ suc (i - 1) = omega arith in
+    ap text_end (ap (λ k. take k s) e ∙ take-suc s (i - 1) 0 (omega arith))
+    ∙ end_byte (take (i - 1) s) (get_or s (i - 1) 0) h
+    ∙ ap suc (length-take-le (i - 1) s (omega arith)) ∙ sym e
 
 -- one more byte copied to the front of d
 pub copied : (i : ℕ) (t d : List ℕ) → i < length t → i < length d
@@ -81,20 +73,6 @@ pub blank_some : (s : List ℕ) → (length s ≡ 0 → ⊥) → leading_blank s
 unfolding leading_blank
 blank_some [] h = absurd (h refl)
 blank_some (b ∷ s) h = refl
-
-module _ (lead : Bool) (t : List ℕ) where
-  pub formed_empty : length t ≡ 0 → well_formed lead t ≡ false
-  unfolding well_formed
-  formed_empty h = rw (eq-eqb (length t) 0 h)
-
-  module _ (some : length t ≡ 0 → ⊥) where
-    pub formed_trailing : (text_end t ≡ length t → ⊥) → well_formed lead t ≡ false
-    unfolding well_formed
-    formed_trailing h = rw (ne_eqb (length t) 0 some, ne_eqb (text_end t) (length t) h)
-
-    pub formed_is : text_end t ≡ length t → well_formed lead t ≡ (lead || not (leading_blank t))
-    unfolding well_formed
-    formed_is h = rw (ne_eqb (length t) 0 some, eq-eqb (text_end t) (length t) h)
 
 module _ (lead : Bool) (w : ℕ) (t : List ℕ) where
   pub text_unprintable : printable t ≡ false → text_in lead w t ≡ refused Unprintable

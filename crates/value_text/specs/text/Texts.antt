@@ -1,6 +1,6 @@
 -- How a text stands in its columns: from the first of them to its last byte that is no blank.
 use Rattle.std.specs.Prelude.{ℕ, suc, ◌-◌, List, [], ◌∷◌, ◌++◌, Bool, true, false, cond, ◌&&◌, ◌||◌, not, length, take, replicate, eqb, leb}
-use Rattle.base_refusal.specs.declared.Written.TheVariants.{Unprintable, Malformed, NoRoom}
+use Rattle.base_refusal.specs.declared.Unwritten.TheVariants.{Unprintable, Malformed, NoRoom}
 use Rattle.base_digits.specs.digits.Columns.{Entry, agreed, refused}
 
 -- how many columns the text takes, trailing blanks not counted

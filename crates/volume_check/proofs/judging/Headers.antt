@@ -1,37 +1,22 @@
 -- What the walk over the headers knows, and the steps of judging one header or a trailer.
-use Prim.Native.Nat.{ℕ, suc, ◌+◌, ◌-◌, ◌*◌, ◌/◌, ◌%◌, ◌≤◌, ◌<◌}
+use Prim.Native.Nat.{ℕ, ◌+◌, ◌-◌, ◌*◌, ◌/◌, ◌≤◌, ◌<◌}
 use native.Mathlib.Omega.{arith}
-use mathlib.Core.Path.{◌≡◌, sym, ap, ◌∙◌}
+use mathlib.Core.Path.{◌≡◌, ap}
 use mathlib.Core.Bool.{Bool, true, false, ◌&&◌}
-use mathlib.Core.List.{List}
-use lib.Dec.{eqb, leb, ltb}
+use mathlib.Core.List.{List, ◌∷◌, ◌++◌}
+use lib.Dec.{leb}
 use lib.ListN.{length, take, drop}
 use borrow.Author.Tests.{le-leb, lt-leb, leb-true}
-use Rattle.base_digits.proofs.digits.Bools.{and_left}
+use Rattle.base_digits.proofs.digits.Bools.{and_left, and_right}
 use Rattle.base_lists.specs.Parts.{alike}
 use Rattle.base_refusal.specs.declared.Refusal.{Refusal}
-use Rattle.base_refusal.specs.Refusals.{refusal}
-use Rattle.header_check.specs.declared.Checked.{Checked}
-use Rattle.header_check.specs.declared.Checked.TheVariants.{Accepted, Refused}
-use Rattle.header_check.specs.forms.Cards.{cards_in}
-use Rattle.header_check.specs.Refusing.{refusal_of}
 use Rattle.volume_form.specs.Rows.{Row}
 use Rattle.volume_form.specs.Marked.{trailer_card, count_on, first_on}
 use Rattle.volume_rules.specs.Sound.{points, enters, covers, headers_in}
 use Rattle.volume_rules.specs.Judged.{header_answer, headers_answer}
-use Rattle.volume_rules.proofs.Lines.{headers_goes, headers_end}
-use Rattle.volume_check.specs.Steps.{entered}
-use Rattle.volume_check.proofs.covering.Walks.{covers_goes, covers-within}
-
--- a header larger than the form allows, and any other
-module _ (f : Row) (h : List ℕ) (l : ℕ) (is : l ≡ f.largest) where
-  pub header_large : (eqb (length h % 80) 0 && ltb l (length h / 80)) ≡ true → Refused (refusal 3 0 0) ≡ header_answer f h
-  unfolding header_answer cards_in
-  header_large e = rw (← is, e)
-
-  pub header-plain : (eqb (length h % 80) 0 && ltb l (length h / 80)) ≡ false → refusal_of h ≡ header_answer f h
-  unfolding header_answer cards_in
-  header-plain e = rw (← is, e)
+use Rattle.volume_check.proofs.Chunks.{first_card, other_cards, one_more}
+use Rattle.std.specs.Prelude.{Result, Err, ⊤}
+use Rattle.base_refusal.specs.Refusals.{no_refusal}
 
 -- a trailer, by the first card that stands on it
 module _ (f : Row) (n first : ℕ) (t : List ℕ) (is : first ≡ first_on f t) where
@@ -51,47 +36,40 @@ module _ (f : Row) (n first : ℕ) (t : List ℕ) (is : first ≡ first_on f t) 
 pub part_long : (a k : ℕ) (s : List ℕ) → take (a + k - a) (drop a s) ≡ take k (drop a s)
 part_long a k s = let e : a + k - a ≡ k = omega arith in ap (λ m. take m (drop a s)) e
 
--- the step over one header of cards that are covered
-module _ (f : Row) (b d : List ℕ) (k at i : ℕ) (more : i < k)
-    (covered : covers f (at + 1) (drop (80 * at) b) (drop (80 * i) d) (k - i) ≡ true) (n : ℕ) (is : n ≡ count_on f (take (80 * i + 80 - 80 * i) (drop (80 * i) d))) where
-  n_is : count_on f (take 80 (drop (80 * i) d)) ≡ n
-  n_is = sym (is ∙ ap (count_on f) (part_long (80 * i) 80 d))
-
-  there : enters f (at + 1) (drop (80 * at) b) (take 80 (drop (80 * i) d)) ≡ true
+-- the step over one header of cards that are covered, whose directory card stands in front of others
+module _ (f : Row) (at n : ℕ) (b d card e : List ℕ) (is : d ≡ card ++ e) (long : length card ≡ 80)
+    (covered : covers f at b d (length d / 80) ≡ true) (told : n ≡ count_on f card) where
+  both : (enters f at b card && covers f (at + n) (drop (80 * n) b) e (length e / 80)) ≡ true
   unfolding covers
-  there =
-      let e : suc (k - (i + 1)) ≡ k - i = omega arith in
-      and_left (enters f (at + 1) (drop (80 * at) b) (take 80 (drop (80 * i) d))) _
-      (ap (covers f (at + 1) (drop (80 * at) b) (drop (80 * i) d)) e ∙ covered)
+  both =
+      rw (one_more d card e is long, ← first_card d card e is long, ← other_cards d card e is long, ← told) at covered
 
-  told : entered f (at + 1) (drop (80 * at) b) (take 80 (drop (80 * i) d)) ≡ n
-  unfolding entered
-  told = rw there n_is
+  there : enters f at b card ≡ true
+  there = and_left (enters f at b card) _ both
 
-  some : n ≡ 0 → ⊥
+  pub within : 80 * n ≤ length b
   unfolding enters
-  some z = let l : 1 ≤ count_on f (take 80 (drop (80 * i) d)) = leb-true 1 _ (and_left (leb 1 (count_on f (take 80 (drop (80 * i) d)))) _ there) in omega (arith, n_is)
+  within =
+      let h = and_left (leb (80 * count_on f card) (length b)) _ (and_right (leb 1 (count_on f card)) _ there) in
+      omega (arith, told, leb-true (80 * count_on f card) (length b) h)
 
-  pub within : 80 * at ≤ length b → 80 * (at + n) ≤ length b
-  within h = covers-within f b d k at i n more some told h
+  pub covered_next : (b' : List ℕ) → b' ≡ drop (80 * n) b → covers f (at + n) b' e (length e / 80) ≡ true
+  covered_next b' h = rw h (and_right (enters f at b card) _ both)
 
-  pub covered_next : covers f (at + n + 1) (drop (80 * (at + n)) b) (drop (80 * (i + 1)) d) (k - (i + 1)) ≡ true
-  covered_next = sym (covers_goes f b d k at i n more some told) ∙ covered
+  module _ (h b' : List ℕ) (front : h ≡ take (80 * n) b) (back : b' ≡ drop (80 * n) b) (x : Result ⊤ Refusal) (answer : x ≡ header_answer f h) where
+    headers-are : headers_in f b d (length d / 80) ≡ h ∷ headers_in f b' e (length e / 80)
+    unfolding headers_in
+    headers-are =
+        rw (one_more d card e is long, ← first_card d card e is long, ← other_cards d card e is long, ← told, front, back)
 
-  module _ (x : Checked) (answer : x ≡ header_answer f (take (80 * at + 80 * n - 80 * at) (drop (80 * at) b))) where
-    x_is : header_answer f (take (80 * n) (drop (80 * at) b)) ≡ x
-    x_is = sym (answer ∙ ap (header_answer f) (part_long (80 * at) (80 * n) b))
-
-    pub answers_goes : x ≡ Accepted
-        → headers_answer f (headers_in f (drop (80 * at) b) (drop (80 * i) d) (k - i))
-        ≡ headers_answer f (headers_in f (drop (80 * (at + n)) b) (drop (80 * (i + 1)) d) (k - (i + 1)))
+    pub answers_goes : x ≡ no_refusal → headers_answer f (headers_in f b d (length d / 80)) ≡ headers_answer f (headers_in f b' e (length e / 80))
     unfolding headers_answer
-    answers_goes a = rw (headers_goes f b d k at i n more n_is, x_is, a)
+    answers_goes a = rw (headers-are, ← answer, a)
 
-    pub answers_stops : (r : Refusal) → x ≡ Refused r → x ≡ headers_answer f (headers_in f (drop (80 * at) b) (drop (80 * i) d) (k - i))
+    pub answers_stops : (r : Refusal) → x ≡ Err r → x ≡ headers_answer f (headers_in f b d (length d / 80))
     unfolding headers_answer
-    answers_stops r a = rw (headers_goes f b d k at i n more n_is, x_is, a)
+    answers_stops r a = rw (headers-are, ← answer, a)
 
-pub answers_ends : (f : Row) (b d : List ℕ) (k i : ℕ) → k ≤ i → Accepted ≡ headers_answer f (headers_in f b d (k - i))
-unfolding headers_answer
-answers_ends f b d k i h = rw (headers_end f b d k i h)
+pub answers_ends : (f : Row) (b d : List ℕ) → length d < 80 → no_refusal ≡ headers_answer f (headers_in f b d (length d / 80))
+unfolding headers_answer headers_in
+answers_ends f b d h = let z : length d / 80 ≡ 0 = omega arith in rw z

@@ -5,23 +5,24 @@ use mathlib.Core.Path.{◌≡◌, refl, sym, ap, ap₂, ◌∙◌}
 use mathlib.Core.Bool.{Bool, true, false, not, cond, ◌&&◌}
 use mathlib.Core.List.{List}
 use lib.ListN.{length, take, drop, length-drop}
-use lib.Seq.{length-take-le}
+use lib.Seq.{length-take-le, take_all}
 use lib.Dec.{leb}
 use borrow.Author.Tests.{le-leb, lt-leb}
 use Rattle.base_refusal.specs.Refusals.{refusal}
-use Rattle.header_check.specs.declared.Checked.{Checked}
-use Rattle.header_check.specs.declared.Checked.TheVariants.{Refused}
 use Rattle.header_check.specs.forms.Cards.{cards_in}
-use Rattle.volume_form.specs.Rows.{Row}
+use Rattle.volume_form.specs.Rows.{Row, row_of}
 use Rattle.volume_form.proofs.Cards.{Good}
 use Rattle.volume_rules.specs.Sound.{points, mixed, covers, headers_in, last_card, first_of, body_of, directory_of, headers_of}
 use Rattle.volume_rules.specs.Judged.{unless, stated, headers_answer, parts_answer, cards_answer, volume_answer, form_in}
+use Rattle.std.specs.Str.{bytes_eq}
 use Rattle.base_lists.specs.Parts.{alike}
 use Rattle.volume_form.specs.declared.Form.TheVariants.{Old, Wide}
-use Rattle.volume_form.specs.Rows.{row_of}
 use Rattle.volume_rules.proofs.Exactly.{Pointed, pointed}
 use Rattle.volume_rules.proofs.Judging.{stated_so}
 use Rattle.volume_check.specs.Steps.{Cards, Trailed}
+use Rattle.volume_check.proofs.Comparing.{starts_as}
+use Rattle.std.specs.Prelude.{Result, Err, ⊤}
+use Rattle.base_refusal.specs.declared.Refusal.{Refusal}
 
 -- the last card
 module _ (n : ℕ) (v : List ℕ) (c : Cards n v) where
@@ -70,7 +71,7 @@ module _ (f : Row) (n : ℕ) (v : List ℕ) (t : Trailed f n v) where
   body_fits good b e = let l : length b ≡ 80 * (first_of f n v - 1) = ap length e ∙ body_long in omega (arith, least, before_last, t.few, good.roomy)
 
   -- what is said of the parts is said of the cards
-  pub parts_said : (b d : List ℕ) (r : Checked) → b ≡ body_of f n v → d ≡ directory_of f n v
+  pub parts_said : (b d : List ℕ) (r : Result ⊤ Refusal) → b ≡ body_of f n v → d ≡ directory_of f n v
       → r ≡ unless (not (mixed f.other d (length d / 80))) 18 (unless (covers f 1 b d (length d / 80)) 19 (headers_answer f (headers_in f b d (length d / 80))))
       → r ≡ cards_answer f n v
   unfolding cards_answer parts_answer headers_of
@@ -83,13 +84,13 @@ module _ (f : Row) (n : ℕ) (v : List ℕ) (t : Trailed f n v) where
       (headers_answer f (headers_in f (body_of f n v) (directory_of f n v) (n - first_of f n v)))))) t.trailer)
 
 -- no trailer
-pub no_trailer : (f : Row) (n : ℕ) (v : List ℕ) → points f n (last_card n v) ≡ false → Refused (refusal 18 0 0) ≡ cards_answer f n v
+pub no_trailer : (f : Row) (n : ℕ) (v : List ℕ) → points f n (last_card n v) ≡ false → Err (refusal 18 0 0) ≡ cards_answer f n v
 unfolding cards_answer
 no_trailer f n v e = rw e
 
 -- the stated number
 module _ (f : Row) (n : ℕ) (buffer : List ℕ) where
-  pub not-stated : stated f n (length buffer / 80) ≡ false → Refused (refusal 18 0 0) ≡ volume_answer f n buffer
+  pub not-stated : stated f n (length buffer / 80) ≡ false → Err (refusal 18 0 0) ≡ volume_answer f n buffer
   unfolding volume_answer cards_in
   not-stated e = rw e
 
@@ -107,7 +108,7 @@ module _ (f : Row) (n : ℕ) (buffer : List ℕ) where
   pub stated-held : stated f n (length buffer / 80) ≡ true → 80 * n ≤ length buffer
   stated-held e = let s = stated_so f n (length buffer / 80) e in omega (arith, s.held)
 
-  pub stated-said : stated f n (length buffer / 80) ≡ true → (r : Checked) → r ≡ cards_answer f n (take (80 * n) buffer) → r ≡ volume_answer f n buffer
+  pub stated-said : stated f n (length buffer / 80) ≡ true → (r : Result ⊤ Refusal) → r ≡ cards_answer f n (take (80 * n) buffer) → r ≡ volume_answer f n buffer
   unfolding volume_answer cards_in
   stated-said e r a = rw e a
 
@@ -126,10 +127,13 @@ module _ (n : ℕ) (buffer : List ℕ) where
       go false = refl
 
   module _ (s : n ≡ 0 → ⊥) (held : n ≤ length buffer / 80) (code : List ℕ) (is : code ≡ (row_of Wide).trailer) (t : Bool)
-      (told : t ≡ alike (take (80 * (n - 1) + 5 - 80 * (n - 1)) (drop (80 * (n - 1)) buffer)) code) where
+      (told : t ≡ bytes_eq code (take (length code) (take (length buffer - 80 * (n - 1)) (drop (80 * (n - 1)) buffer)))) where
     five : alike (take 5 (drop (80 * (n - 1)) buffer)) (row_of Wide).trailer ≡ t
-    five = let e : 80 * (n - 1) + 5 - 80 * (n - 1) ≡ 5 = omega arith in
-        sym (told ∙ ap (λ m. alike (take m (drop (80 * (n - 1)) buffer)) code) e ∙ ap (alike (take 5 (drop (80 * (n - 1)) buffer))) is)
+    unfolding row_of
+    five =
+        let l = drop (80 * (n - 1)) buffer in
+        let e : take (length buffer - 80 * (n - 1)) l ≡ l = take_all (length buffer - 80 * (n - 1)) l (rw length-drop (omega arith)) in
+        sym (told ∙ ap₂ (λ o m. bytes_eq o (take (length o) m)) is e ∙ starts_as (take 5 l) (row_of Wide).trailer)
 
     by_code : cond t Wide Old ≡ form_in n buffer
     unfolding form_in cards_in
@@ -143,15 +147,15 @@ module _ (n : ℕ) (buffer : List ℕ) where
 
 -- what is said of the parts, test by test
 module _ (f : Row) (b d : List ℕ) (m : Bool) (m-is : m ≡ mixed f.other d (length d / 80)) where
-  abbrev said : Checked
+  abbrev said : Result ⊤ Refusal
   said = unless (not (mixed f.other d (length d / 80))) 18 (unless (covers f 1 b d (length d / 80)) 19 (headers_answer f (headers_in f b d (length d / 80))))
 
-  pub parts-mixed : m ≡ true → Refused (refusal 18 0 0) ≡ said
+  pub parts-mixed : m ≡ true → Err (refusal 18 0 0) ≡ said
   parts-mixed e = rw (← m-is, e)
 
   module _ (plain : m ≡ false) (t : Bool) (t-is : t ≡ covers f 1 b d (length d / 80)) where
     pub parts-covered : t ≡ true → headers_answer f (headers_in f b d (length d / 80)) ≡ said
     parts-covered e = rw (← m-is, plain, ← t-is, e)
 
-    pub parts_uncovered : t ≡ false → Refused (refusal 19 0 0) ≡ said
+    pub parts_uncovered : t ≡ false → Err (refusal 19 0 0) ≡ said
     parts_uncovered e = rw (← m-is, plain, ← t-is, e)

@@ -6,12 +6,12 @@ use Rattle.volume_form.specs.Rows.{row_of}
 use Rattle.volume_check.proofs.lines.Goals as goal
 
 pub count_in-requires : goal.count_in-requires
-count_in-requires c = sym c.judge-checked.ensures ∙ c.in-Accepted.is
+count_in-requires c = sym c.judge-checked.ensures ∙ c.in-Ok.is
 
-pub returns-in-Accepted : goal.returns-in-Accepted
-returns-in-Accepted c =
-    lines-counted (row_of c.form_of-form.result) c.args.cards c.args.volume.now (sym c.judge-checked.ensures ∙ c.in-Accepted.is) _ c.count_in.ensures ∙ ap (λ x. lines_of (row_of x) c.args.cards c.args.volume.now) c.form_of-form.ensures
+pub returns-in-Ok : goal.returns-in-Ok
+returns-in-Ok c =
+    lines-counted (row_of c.form_of-form.result) c.args.cards c.args.volume.now (sym c.judge-checked.ensures ∙ c.in-Ok.is) _ c.count_in.ensures ∙ ap (λ x. lines_of (row_of x) c.args.cards c.args.volume.now) c.form_of-form.ensures
 
-pub returns-in-Refused : goal.returns-in-Refused
-returns-in-Refused c =
-    lines-refused (row_of c.form_of-form.result) c.args.cards c.args.volume.now _ (sym c.judge-checked.ensures ∙ c.in-Refused.is) ∙ ap (λ x. lines_of (row_of x) c.args.cards c.args.volume.now) c.form_of-form.ensures
+pub returns-in-Err : goal.returns-in-Err
+returns-in-Err c =
+    lines-refused (row_of c.form_of-form.result) c.args.cards c.args.volume.now _ (sym c.judge-checked.ensures ∙ c.in-Err.is) ∙ ap (λ x. lines_of (row_of x) c.args.cards c.args.volume.now) c.form_of-form.ensures

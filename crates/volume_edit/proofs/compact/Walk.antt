@@ -1,12 +1,10 @@
 -- The walk that packs the lines that are kept, in the buffer.
 use Prim.Native.Nat.{ℕ, ◌+◌, ◌-◌, ◌*◌, ◌/◌, ◌^◌, ◌≤◌, ◌<◌}
-use native.Mathlib.Nat.{add-zero}
 use native.Mathlib.Omega.{arith}
 use mathlib.Core.Path.{◌≡◌, refl, sym, ap, ap₂, ◌∙◌}
-use mathlib.Core.Bool.{Bool, true, false, not, cond}
+use mathlib.Core.Bool.{Bool, true, false}
 use mathlib.Core.List.{List}
 use lib.ListN.{length, take, drop, length-drop}
-use Rattle.base_lists.specs.Count.{bit}
 use Rattle.volume_form.specs.Rows.{Row}
 use Rattle.volume_form.specs.Marked.{count_on}
 use Rattle.volume_form.proofs.Cards.{Good}
@@ -103,16 +101,3 @@ module _ (f : Row) (good : Good f) (s₀ : List ℕ) (body k : ℕ) (l : Listed 
         pack_keeps e =
             rw (compact_card f good (cards₀ s₀ body k) (directory₀ s₀ body k) (rest₀ s₀ body k) body k s at i to j n b_long d_long small inv more number _ refl)
             (compact_keeps f good (cards₀ s₀ body k) (directory₀ s₀ body k) (rest₀ s₀ body k) body k s at i to j n b_long d_long small inv more number (said ∙ e))
-
-pub kept-few : (gone : Bool) (n kept : ℕ) → kept ≡ cond gone 0 n → kept ≤ n
-kept-few true n kept e = omega arith
-kept-few false n kept e = omega arith
-
--- either way, what the step answers and leaves
-pub pack_goes : (f : Row) (s₀ : List ℕ) (body k : ℕ) (s : List ℕ) (at i to j n : ℕ) (gone : Bool)
-    → (gone ≡ true → Pack f s₀ body k s (at + n) (i + 1) to j)
-    → (gone ≡ false → Pack f s₀ body k (line_kept f at to n (body + j) s) (at + n) (i + 1) (to + n) (j + 1))
-    → (kept : ℕ) → kept ≡ cond gone 0 n → (s' : List ℕ) → s' ≡ cond gone s (line_kept f at to n (body + j) s) → (one : ℕ) → one ≡ bit (not gone)
-    → Pack f s₀ body k s' (at + n) (i + 1) (to + kept) (j + one)
-pack_goes f s₀ body k s at i to j n true p q kept kept-is s' s_is one one_is = rw (kept-is, s_is, one_is, add-zero, add-zero) (p refl)
-pack_goes f s₀ body k s at i to j n false p q kept kept-is s' s_is one one_is = rw (kept-is, s_is, one_is) (q refl)

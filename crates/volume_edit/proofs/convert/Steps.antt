@@ -1,13 +1,12 @@
 -- What the steps of a conversion ask and leave, in the buffer.
-use Prim.Native.Nat.{ℕ, suc, ◌+◌, ◌-◌, ◌*◌, ◌≤◌, ◌<◌}
+use Prim.Native.Nat.{ℕ, zero, suc, ◌+◌, ◌-◌, ◌*◌, ◌≤◌, ◌<◌}
 use native.Mathlib.Omega.{arith}
-use mathlib.Core.Path.{◌≡◌, sym, ap, ◌∙◌}
-use mathlib.Core.Bool.{true, false, ◌&&◌}
+use mathlib.Core.Path.{◌≡◌, refl, sym, ap, ◌∙◌}
 use mathlib.Core.List.{List, ◌++◌}
 use lib.Dec.{leb}
-use borrow.Author.Tests.{le-leb, lt-leb}
 use lib.ListN.{length, take, drop, length-drop, take-append-drop}
 use lib.Seq.{take_all, length-take-le, drop-drop}
+use Rattle.std.specs.List.{list_all}
 use Rattle.volume_form.specs.Moved.{laid_at}
 use Rattle.volume_form.specs.Rows.{Row}
 use Rattle.volume_form.specs.Marked.{entry_card, count_on}
@@ -15,7 +14,8 @@ use Rattle.volume_form.proofs.Cards.{Good}
 use Rattle.volume_rules.specs.Converted.{few_on}
 use Rattle.volume_rules.specs.Volume.{directory}
 use Rattle.volume_rules.specs.Sound.{headers_in}
-use Rattle.volume_rules.proofs.Converting.{Converting, convert_starts, convert_long, convert_there, convert_room, convert_goes, convert_ends}
+use Rattle.volume_rules.proofs.Converting.{Converting, convert_long, convert_there, convert_room, convert_goes, convert_ends}
+use Rattle.volume_check.proofs.Chunks.{cards}
 use Rattle.volume_edit.specs.Parts.{CardFits, Listed}
 
 -- a card, and the rest from a card on
@@ -64,9 +64,6 @@ module _ (f g : Row) (good : Good g) (s₀ : List ℕ) (body k : ℕ) (l : Liste
   d_long : length (directory₀ s₀ body k) ≡ 80 * k
   d_long = directory_long s₀ body k (omega (arith, l.room))
 
-  pub walk_starts : Walk f g s₀ body k s₀ 0 0
-  walk_starts = convert_starts f g (cards₀ s₀ body k) (directory₀ s₀ body k) (rest₀ s₀ body k) k l.over s₀ (parts₀ s₀ body k)
-
   module _ (s : List ℕ) (at i : ℕ) (inv : Walk f g s₀ body k s at i) where
     pub walk_long : i ≤ k → length s ≡ length s₀
     walk_long h =
@@ -101,21 +98,8 @@ module _ (f g : Row) (good : Good g) (s₀ : List ℕ) (body k : ℕ) (l : Liste
         → s ≡ cards₀ s₀ body k ++ (directory g 1 (headers_in f (cards₀ s₀ body k) (directory₀ s₀ body k) k) ++ rest₀ s₀ body k)
     walk_ends h h' = convert_ends f g (cards₀ s₀ body k) (directory₀ s₀ body k) (rest₀ s₀ body k) k s at i d_long h h' inv
 
--- the walk that looks at how large the headers are
-module _ (f : Row) (m : ℕ) (d : List ℕ) (k i : ℕ) (more : i < k) (n : ℕ) (n_is : n ≡ count_on f (take (80 * i + 80 - 80 * i) (drop (80 * i) d))) where
-  few-step : few_on f m (drop (80 * i) d) (k - i) ≡ (leb n m && few_on f m (drop (80 * (i + 1)) d) (k - (i + 1)))
-  unfolding few_on
-  few-step =
-      let e : k - i ≡ suc (k - (i + 1)) = omega arith in
-      let r : 80 * i + 80 ≡ 80 * (i + 1) = omega arith in
-      rw (e, drop-drop 80 (80 * i) d, r) (ap (λ q. leb q m && few_on f m (drop (80 * (i + 1)) d) (k - (i + 1))) (sym (card_read f d i n n_is)))
-
-  pub few_hit : m < n → few_on f m (drop (80 * i) d) (k - i) ≡ false
-  few_hit h = few-step ∙ rw (lt-leb n m h)
-
-  pub few_on_lem : n ≤ m → few_on f m (drop (80 * i) d) (k - i) ≡ few_on f m (drop (80 * (i + 1)) d) (k - (i + 1))
-  few_on_lem h = few-step ∙ rw (le-leb n m h)
-
-pub few-none : (f : Row) (m : ℕ) (d : List ℕ) (k i : ℕ) → k ≤ i → few_on f m d (k - i) ≡ true
-unfolding few_on
-few-none f m d k i h = let e : k - i ≡ 0 = omega arith in rw e
+-- how large the headers are, told card by card
+pub few_all : (f : Row) (m k : ℕ) (d : List ℕ) → list_all (λ card. leb (count_on f card) m) (cards k d) ≡ few_on f m d k
+unfolding cards few_on
+few_all f m zero d = refl
+few_all f m (suc k) d = rw (few_all f m k (drop 80 d))

@@ -6,12 +6,12 @@ use Rattle.volume_edit.proofs.judge_append.Goals as goal
 
 pub judge_header-requires : goal.judge_header-requires
 judge_header-requires c =
-    few-cards c.args.form c.args.cards c.args.buffer.now (sym c.judge-checked.ensures ∙ c.in-Accepted.is)
+    few-cards c.args.form c.args.cards c.args.buffer.now (sym c.judge-checked.ensures ∙ c.in-Ok.is)
 
-pub returns-in-Accepted : goal.returns-in-Accepted
-returns-in-Accepted c =
-    volume_good (row_of c.args.form) c.args.cards c.args.buffer.now c.args.header.now _ c.judge-checked.ensures c.in-Accepted.is _ c.judge_header.ensures
+pub returns-in-Ok : goal.returns-in-Ok
+returns-in-Ok c =
+    volume_good (row_of c.args.form) c.args.cards c.args.buffer.now c.args.header.now _ c.judge-checked.ensures c.in-Ok.is _ c.judge_header.ensures
 
-pub returns-in-Refused : goal.returns-in-Refused
-returns-in-Refused c =
-    volume_refused (row_of c.args.form) c.args.cards c.args.buffer.now c.args.header.now _ c.judge-checked.ensures _ c.in-Refused.is
+pub returns-in-Err : goal.returns-in-Err
+returns-in-Err c =
+    volume_refused (row_of c.args.form) c.args.cards c.args.buffer.now c.args.header.now _ c.judge-checked.ensures _ c.in-Err.is

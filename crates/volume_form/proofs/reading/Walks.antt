@@ -1,6 +1,6 @@
 -- What the walks over columns know.
 use Prim.Native.Nat.{ℕ, suc, ◌+◌, ◌-◌, ◌*◌, ◌^◌, ◌≤◌, ◌<◌}
-use native.Mathlib.Nat.{pow-succ', pow-le-pow_right, mul_comm}
+use native.Mathlib.Nat.{pow-succ', mul_comm}
 use native.Mathlib.Numerals.{add-one}
 use native.Mathlib.Omega.{arith}
 use mathlib.Core.Path.{◌≡◌, ap, ◌∙◌}
@@ -22,9 +22,6 @@ module _ (n i : ℕ) (s : List ℕ) where
   value_ends h = rw (drop_of_length-le s h)
 
 -- so many bytes make no larger number
-pub value_bound : (n i : ℕ) → i ≤ 9 → n + 23 ≤ 23 * 10 ^ i → n ≤ 23000000000
-value_bound n i h l = let p : 10 ^ i ≤ 10 ^ 9 = pow-le-pow_right (omega arith) h in omega arith
-
 pub value_more : (n i d : ℕ) → d ≤ 207 → n + 23 ≤ 23 * 10 ^ i → 10 * n + d + 23 ≤ 23 * 10 ^ (i + 1)
 value_more n i d h l = let p : 10 ^ (i + 1) ≡ 10 * 10 ^ i = ap (λ k. 10 ^ k) (add-one i) ∙ pow-succ' 10 i in omega arith
 

@@ -1,28 +1,15 @@
 -- `base_digits::digits::padding` meets its contract.
-use Rattle.base_digits.proofs.digits.Walk.{blanks_stop, blanks_go, blanks_end}
-use mathlib.Core.Path.{sym, ◌∙◌}
-use native.Mathlib.Nat.{zero-add}
-use native.Mathlib.Omega.{arith}
-use borrow.Author.Rules.{rules}
+use Rattle.std.proofs.Common.{rules, tests, eqb, ◌∙◌}
+use Rattle.std.proofs.lemmas.Iterator.{YieldsList-from_slice}
+use Rattle.std.proofs.lemmas.Iterator.Consumers.{count_from_yields_List}
+use Rattle.std.proofs.lemmas.Iterator.Search.{YieldsList-from_take_while}
+use Rattle.std.proofs.lemmas.List.Folds.{length-prefix_len}
+use Rattle.base_digits.proofs.digits.Walk.{blanks_are}
 use Rattle.base_digits.proofs.digits.padding.Goals as goal
 
-pub loop-i-init : goal.loop-i-init
-loop-i-init c = (search rules, sym (zero-add _))
-
-pub returns-then-s-i-ne32 : goal.returns-then-s-i-ne32
-returns-then-s-i-ne32 c =
-    let b = c.loop-i in record {
-      found = blanks_stop b.i c.args.s.now c.loop-i-test.true c.if-s-i-ne32.true ∙ sym b.invariant.1;
-      within = omega arith;
-    }
-
-pub loop-i-preserved : goal.loop-i-preserved
-loop-i-preserved c =
-    let b = c.loop-i in (search rules, b.invariant.1 ∙ blanks_go b.i c.args.s.now c.loop-i-test.true c.if-s-i-ne32.false)
-
-pub returns : goal.returns
-returns c =
-    let b = c.loop-i in record {
-      found = blanks_end b.i c.args.s.now c.loop-i-test.false ∙ sym b.invariant.1;
-      within = omega arith;
-    }
+pub returns-clause-found : goal.returns-clause-found
+returns-clause-found c =
+    let s = c.args.s.now in
+    count_from_yields_List _ _ c.count.ensures.ran (YieldsList-from_take_while _ (λ b. eqb b 32) (YieldsList-from_slice s cc) c.take_while.ensures.closure c.take_while.ensures.done (λ x b q k. search (rules, tests)))
+    ∙ length-prefix_len (λ b. eqb b 32) s
+    ∙ blanks_are s

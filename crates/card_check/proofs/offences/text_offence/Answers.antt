@@ -1,18 +1,10 @@
 -- `card_check::offences::text_offence` meets its contract.
 use mathlib.Core.Path.{sym}
-use Rattle.card_check.proofs.offences.Offences.{blank_is, blank_not, text_filled, text-missing, text_led, text_odd}
+use Rattle.card_check.proofs.offences.Offences.{blank_not, text_filled, text_odd}
 use Rattle.card_check.proofs.offences.text_offence.Goals as goal
 
 pub returns-then-s-ne-BLANK : goal.returns-then-s-ne-BLANK
 returns-then-s-ne-BLANK c = sym (text_filled c.args.s.now _ c.requires c.if-s-ne-BLANK.true)
-
-pub returns-then-text_end-eq0 : goal.returns-then-text_end-eq0
-returns-then-text_end-eq0 c =
-    sym (text-missing c.args.s.now _ (blank_is c.args.s.now _ c.text_end.ensures.found c.if-text_end-eq0.true))
-
-pub returns-then-lead : goal.returns-then-lead
-returns-then-lead c =
-    sym (text_led c.args.s.now _ (blank_not c.args.s.now _ c.text_end.ensures.found c.if-text_end-eq0.false) c.if-lead.true)
 
 pub returns : goal.returns
 returns c =

@@ -1,5 +1,4 @@
 -- `card_field::judging::value_of` meets its contract: each kind of value is held by itself.
-use Rattle.card_field.specs.declared.judging.Judged.TheVariants as judged
 use Rattle.base_value.specs.declared.Value.TheVariants as value
 use lib.IntN.{ℤ}
 use mir.ValLaws.{to_z-of_z}
@@ -11,6 +10,7 @@ use Rattle.card_field.specs.needing.Needs.{needed_on}
 use Rattle.card_field.specs.judging.Fields.{value_of, text_last}
 use Rattle.card_field.proofs.judging.Steps.{value_missing, value_absent, value_within, value_outside, value_text}
 use Rattle.card_field.proofs.judging.value_of.Goals as goal
+use Rattle.std.specs.Prelude.{Ok}
 
 pub returns-then-needed_on : goal.returns-then-needed_on
 returns-then-needed_on c = sym (value_missing _ _ _ c.in-Absent.is (sym c.needed_on.ensures ∙ c.if-needed_on.true))
@@ -39,7 +39,7 @@ pub returns-in-Angle : goal.returns-in-Angle
 unfolding value_of
 returns-in-Angle c =
     let a = c.args in
-    ap (λ (z : ℤ). judged.Is (value.Angle z)) (to_z-of_z w64 c.in-Angle.z (record { sfits = c.in-Angle.known_told-in-Angle-1-own.given.0.1 }))
+    ap (λ (z : ℤ). Ok (value.Angle z)) (to_z-of_z w64 c.in-Angle.z (record { sfits = c.in-Angle.known_told-in-Angle-1-own.given.0.1 }))
     ∙ sym (ap (value_of (needed_on a.layout a.card.now (unpack a.row)) (unpack a.row)) c.in-Angle.is)
 
 pub returns-in-Date : goal.returns-in-Date

@@ -1,5 +1,4 @@
 -- `card_put::opening::lay_label` meets its contract.
-use Prim.Native.Nat.{◌≤◌, ◌-◌}
 use mathlib.Core.Path.{◌≡◌}
 use mathlib.Core.List.{◌++◌}
 use lib.ListN.{length, take, drop}
@@ -8,7 +7,4 @@ use Rattle.card_put.specs.opening.Opening.{labelled}
 use Rattle.card_put.proofs.opening.lay_label.Given as goal
 
 abbrev pub invariant-loop-i : goal.invariant-loop-i
-invariant-loop-i l = (l.i ≤ length l.initial.columns) × (length l.columns ≡ length l.initial.columns) × (l.columns ≡ take l.i (labelled (label_of l.layout) (length l.initial.columns)) ++ drop l.i l.initial.columns)
-
-abbrev pub decreases-loop-i : goal.decreases-loop-i
-decreases-loop-i l = length l.columns - l.i
+invariant-loop-i l = l.columns ≡ take l.i (labelled (label_of l.layout) (length l.initial.columns)) ++ drop l.i l.initial.columns

@@ -3,20 +3,20 @@ use mathlib.Core.Path.{sym, ap, ◌∙◌}
 use Rattle.card_put.specs.opening.Opening.{code_answer, card_with}
 use Rattle.card_put.proofs.opening.Laying.{open_none, open_odd, kept_odd, open_coded, card_coded, passed_length, read_length}
 use native.Mathlib.Omega.{arith}
-use Rattle.card_put.specs.declared.opening.Opened.TheVariants.{Refused}
 use Rattle.card_put.proofs.opening.open.Goals as goal
+use Rattle.std.specs.Prelude.{Err}
 
 pub returns-then-card-eq0 : goal.returns-then-card-eq0
 returns-then-card-eq0 c =
     let t = c.args.code.now in let s = c.args.card.now in record {
-      answer = ap Refused c.refuse.ensures ∙ sym (open_none t s c.if-card-eq0.true);
+      answer = ap Err c.refuse.ensures ∙ sym (open_none t s c.if-card-eq0.true);
       card = sym (kept_odd t s (λ q. omega (arith, c.if-card-eq0.true)));
     }
 
 pub returns-then-card-ne-CARD : goal.returns-then-card-ne-CARD
 returns-then-card-ne-CARD c =
     let t = c.args.code.now in let s = c.args.card.now in record {
-      answer = ap Refused c.refuse-then-card-ne-CARD.ensures ∙ sym (open_odd t s c.if-card-eq0.false c.if-card-ne-CARD.true);
+      answer = ap Err c.refuse-then-card-ne-CARD.ensures ∙ sym (open_odd t s c.if-card-eq0.false c.if-card-ne-CARD.true);
       card = sym (kept_odd t s c.if-card-ne-CARD.true);
     }
 
@@ -30,7 +30,7 @@ pub returns-in-Unknown : goal.returns-in-Unknown
 unfolding code_answer card_with
 returns-in-Unknown c =
     let t = c.args.code.now in let s = c.args.card.now in let e = sym c.code_of-known.ensures ∙ c.in-Unknown.is in record {
-      answer = ap Refused c.refuse-in-Unknown.ensures ∙ sym (open_coded t s c.if-card-ne-CARD.false _ e);
+      answer = ap Err c.refuse-in-Unknown.ensures ∙ sym (open_coded t s c.if-card-ne-CARD.false _ e);
       card = sym (card_coded t s c.if-card-ne-CARD.false _ e);
     }
 

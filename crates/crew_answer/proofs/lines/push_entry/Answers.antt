@@ -8,7 +8,7 @@ pub returns : goal.returns
 unfolding entry_at
 returns c =
     record {
-      out = c.push_line.ensures.out ∙ rw (c.wide-card.ensures.same, c.wide-column.ensures.same, c.wide-kind.ensures.same, c.wide-vessel.ensures.same, add-zero);
-      next = c.push_line.ensures.next ∙ rw (c.wide-card.ensures.same, c.wide-column.ensures.same, c.wide-kind.ensures.same, c.wide-vessel.ensures.same, add-zero);
+      out = c.push_line.ensures.out ∙ rw (c.from-card.ensures, c.from-column.ensures, c.from-kind.ensures, c.from-vessel.ensures, add-zero);
+      next = c.push_line.ensures.next ∙ rw (c.from-card.ensures, c.from-column.ensures, c.from-kind.ensures, c.from-vessel.ensures, add-zero);
       within = c.push_line.ensures.within;
     }

@@ -11,7 +11,7 @@ returns c =
     let args = c.args in
     let w = c.push_count-counted in
     let p = c.push_entries in
-    let k : c.least-k.result ≡ told args.n args.list.now = c.least-k.ensures ∙ rw c.least.ensures in
+    let k : c.min-k.result ≡ told args.n args.list.now = c.min-k.ensures ∙ rw c.min.ensures in
     let a : Put args.out.now 0 (count_text args.n) w.new.out w.result = record { out = w.ensures.out; place = omega (arith, w.ensures.next) } in
     let b : Put w.new.out w.result (entries_text args.list.now (told args.n args.list.now)) p.new.out p.result = record { out = rw (← k) p.ensures.out; place = rw (← k) p.ensures.next } in
     let l = laid_put (then a b) in

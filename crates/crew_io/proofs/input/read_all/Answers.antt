@@ -1,26 +1,33 @@
 -- What one read adds to the reader's bytes that were read before.
 use native.Mathlib.Omega.{arith}
-use Rattle.std.proofs.Common.{rules, ◌≡◌, ◌+◌, ◌++◌, ℕ, List}
+use Rattle.std.proofs.Common.{◌≡◌, ◌≤◌, ◌+◌, ◌-◌, ◌++◌, ℕ, List, length, sym, ap, ◌∙◌, rules}
 use Rattle.std.specs.Prelude.{take, drop, None, Some}
 use Rattle.std.specs.declared.option.Option.{Option}
 use Rattle.std.specs.Io.KnownBytes.{Consumes}
-use Rattle.std.proofs.Math.Seq.{take-add}
-use Rattle.std.proofs.lemmas.List.{append_assoc}
+use Rattle.std.proofs.Math.Seq.{take-append-add, length-take-le}
+use Rattle.std.proofs.lemmas.List.{append_assoc, take-append-le}
+use borrow.Rule.Slice.PartMut.{put_mid}
 use Rattle.crew_io.proofs.input.read_all.Goals as goal
 
 -- a reader that gives some bytes, and then more, gives both
-both : (a b c : Option (List ℕ)) (xs ys zs : List ℕ) → zs ≡ xs ++ ys → Consumes a b xs → Consumes b c ys → Consumes a c zs
-both None b c xs ys zs e h k = _
-both (Some s) (Some t) None xs ys zs e h k = k
-both (Some s) (Some t) (Some u) xs ys zs e h k = grind (arith, append_assoc)
-both (Some s) None c xs ys zs e h k = elim h [ ]
+both : (a b c : Option (List ℕ)) (xs ys : List ℕ) → Consumes a b xs → Consumes b c ys → Consumes a c (xs ++ ys)
+both None b c xs ys h k = _
+both (Some s) (Some t) None xs ys h k = k
+both (Some s) (Some t) (Some u) xs ys h k = grind (arith, append_assoc)
+both (Some s) None c xs ys h k = elim h [ ]
 
--- the bytes that came before, and those of one more read
-grown : (a b c : Option (List ℕ)) (done n : ℕ) (was is : List ℕ)
-    → take done is ≡ take done was → Consumes a b (take done was) → Consumes b c (take n (drop done is)) → Consumes a c (take (done + n) is)
-grown a b c done n was is e h k = both a b c (take done was) (take n (drop done is)) (take (done + n) is) (grind (arith, take-add)) h k
+-- the first bytes, and n of the part behind them
+placed : (done n k : ℕ) (was part : List ℕ) → done ≤ length was → n ≤ length part
+    → take done was ++ take n part ≡ take (done + n) (put_mid done k was part)
+placed done n k was part p q =
+    let rest = drop k (drop done was) in
+    let e : length (take done was) ≡ done = length-take-le done was p in
+    let f = rw e at (take-append-add (take done was) (part ++ rest) n) in
+    sym (f ∙ ap (λ l. take done was ++ l) (take-append-le n part rest q))
 
 pub loop-done-preserved : goal.loop-done-preserved
 loop-done-preserved g c =
-    let q = grown _ _ _ _ _ _ _ c.in-Bytes.ensures.bytes.0 c.loop-done.invariant.2 c.in-Bytes.ensures.bytes.1 in
-    search (rules, q, c.in-Bytes.ensures.sizes)
+    let n = c.in_ok-more.ensures.bound.0 in
+    let e = placed c.loop-done.done _ (length c.loop-done.buf - c.loop-done.done) c.loop-done.buf _ (omega arith) n in
+    let h = both _ _ _ _ _ c.loop-done.invariant.2 c.in_ok-more.ensures.bytes.0 in
+    search (rules, e, h)

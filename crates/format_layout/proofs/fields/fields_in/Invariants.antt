@@ -4,8 +4,8 @@ use lib.ListN.{length}
 use Rattle.format_layout.specs.Layouts.{fields_of}
 use Rattle.format_layout.proofs.fields.fields_in.Given as goal
 
-abbrev pub invariant-loop-layout : goal.invariant-loop-layout
-invariant-loop-layout l = l.count ≤ length (fields_of l.layout)
+abbrev pub invariant-loop-count : goal.invariant-loop-count
+invariant-loop-count l = l.count ≤ length (fields_of l.layout)
 
-abbrev pub decreases-loop-layout : goal.decreases-loop-layout
-decreases-loop-layout l = length (fields_of l.layout) - l.count
+abbrev pub decreases-loop-count : goal.decreases-loop-count
+decreases-loop-count l = length (fields_of l.layout) - l.count

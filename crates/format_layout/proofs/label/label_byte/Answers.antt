@@ -7,4 +7,4 @@ pub returns-then-place-ge-LABEL : goal.returns-then-place-ge-LABEL
 returns-then-place-ge-LABEL c = label_past _ _ c.if-place-ge-LABEL.true
 
 pub returns : goal.returns
-returns c = label-byte-is _ _ (search rules) _ c.label_row-label.ensures.0
+returns c = label-byte-is _ _ (search rules) _ c.label_row.ensures.0

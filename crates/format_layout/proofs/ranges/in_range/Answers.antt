@@ -1,13 +1,17 @@
 -- `format_layout::ranges::in_range` meets its contract: below zero only an open range holds, from zero up the range's own test.
-use mathlib.Core.Path.{◌∙◌}
-use Rattle.format_layout.proofs.ranges.Signs.{below_zero, from_zero_lem, size_fits}
+use Rattle.std.proofs.Common.{◌∙◌}
+use mir.Syntax.{w64}
+use mir.ValLaws.{to_z-of_z}
+use Rattle.format_layout.proofs.ranges.Signs.{no_size, a_size}
 use Rattle.format_layout.proofs.ranges.in_range.Goals as goal
 
-pub returns-then-value-lt0 : goal.returns-then-value-lt0
-returns-then-value-lt0 c = c.is_any.ensures ∙ below_zero _ c.ranges.value _ c.if-value-lt0.true
+pub returns-in-Ok : goal.returns-in-Ok
+returns-in-Ok c =
+    let held = to_z-of_z w64 c.args.value c.ranges.value in
+    let h = rw held at c.in-Ok.ensures in
+    c.allows_size.ensures ∙ a_size _ c.args.value _ h.0 h.1
 
-pub overflow_cast-value : goal.overflow_cast-value
-overflow_cast-value c = size_fits _ c.ranges.value c.if-value-lt0.false
-
-pub returns : goal.returns
-returns c = c.allows_size.ensures ∙ from_zero_lem _ c.ranges.value _ c.if-value-lt0.false
+pub returns-in-Err : goal.returns-in-Err
+returns-in-Err c =
+    let held = to_z-of_z w64 c.args.value c.ranges.value in
+    c.is_any.ensures ∙ no_size _ c.args.value c.ranges.value (rw held at c.in-Err.ensures)

@@ -3,10 +3,10 @@ use mathlib.Core.Path.{sym, ap, ◌∙◌}
 use Rattle.p294.specs.answers.Replies.{converted_reply}
 use Rattle.p294.proofs.answers.of_converted.Goals as goal
 
-pub returns-in-Length : goal.returns-in-Length
+pub returns-in-Ok : goal.returns-in-Ok
 unfolding converted_reply
-returns-in-Length c = c.counted.ensures ∙ sym (ap converted_reply c.in-Length.is)
+returns-in-Ok c = c.counted.ensures ∙ sym (ap converted_reply c.in-Ok.is)
 
-pub returns-in-Refused : goal.returns-in-Refused
+pub returns-in-Err : goal.returns-in-Err
 unfolding converted_reply
-returns-in-Refused c = c.refused.ensures ∙ sym (ap converted_reply c.in-Refused.is)
+returns-in-Err c = c.refused.ensures ∙ sym (ap converted_reply c.in-Err.is)

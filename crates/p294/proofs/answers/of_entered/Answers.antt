@@ -3,10 +3,10 @@ use mathlib.Core.Path.{sym, ap, ◌∙◌}
 use Rattle.p294.specs.answers.Replies.{entered_reply}
 use Rattle.p294.proofs.answers.of_entered.Goals as goal
 
-pub returns-in-Done : goal.returns-in-Done
+pub returns-in-Ok : goal.returns-in-Ok
 unfolding entered_reply
-returns-in-Done c = c.done.ensures ∙ sym (ap entered_reply c.in-Done.is)
+returns-in-Ok c = c.done.ensures ∙ sym (ap entered_reply c.in-Ok.is)
 
-pub returns-in-Refused : goal.returns-in-Refused
+pub returns-in-Err : goal.returns-in-Err
 unfolding entered_reply
-returns-in-Refused c = c.refused.ensures ∙ sym (ap entered_reply c.in-Refused.is)
+returns-in-Err c = c.refused.ensures ∙ sym (ap entered_reply c.in-Err.is)

@@ -3,10 +3,10 @@ use mathlib.Core.Path.{sym, ap, ◌∙◌}
 use Rattle.p294.specs.answers.Replies.{field_reply}
 use Rattle.p294.proofs.answers.of_field.Goals as goal
 
-pub returns-in-Is : goal.returns-in-Is
+pub returns-in-Ok : goal.returns-in-Ok
 unfolding field_reply
-returns-in-Is c = c.of_value.ensures ∙ sym (ap field_reply c.in-Is.is)
+returns-in-Ok c = c.of_value.ensures ∙ sym (ap field_reply c.in-Ok.is)
 
-pub returns-in-Refused : goal.returns-in-Refused
+pub returns-in-Err : goal.returns-in-Err
 unfolding field_reply
-returns-in-Refused c = c.refused.ensures ∙ sym (ap field_reply c.in-Refused.is)
+returns-in-Err c = c.refused.ensures ∙ sym (ap field_reply c.in-Err.is)

@@ -3,10 +3,10 @@ use mathlib.Core.Path.{sym, ap, ◌∙◌}
 use Rattle.p294.specs.answers.Replies.{lines_reply}
 use Rattle.p294.proofs.answers.of_lines.Goals as goal
 
-pub returns-in-Lines : goal.returns-in-Lines
+pub returns-in-Ok : goal.returns-in-Ok
 unfolding lines_reply
-returns-in-Lines c = c.counted.ensures ∙ sym (ap lines_reply c.in-Lines.is)
+returns-in-Ok c = c.counted.ensures ∙ sym (ap lines_reply c.in-Ok.is)
 
-pub returns-in-Refused : goal.returns-in-Refused
+pub returns-in-Err : goal.returns-in-Err
 unfolding lines_reply
-returns-in-Refused c = c.refused.ensures ∙ sym (ap lines_reply c.in-Refused.is)
+returns-in-Err c = c.refused.ensures ∙ sym (ap lines_reply c.in-Err.is)

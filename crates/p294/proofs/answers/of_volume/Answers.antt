@@ -3,10 +3,10 @@ use mathlib.Core.Path.{sym, ap, ◌∙◌}
 use Rattle.p294.specs.answers.Replies.{volume_reply}
 use Rattle.p294.proofs.answers.of_volume.Goals as goal
 
-pub returns-in-Cards : goal.returns-in-Cards
+pub returns-in-Ok : goal.returns-in-Ok
 unfolding volume_reply
-returns-in-Cards c = c.counted.ensures ∙ sym (ap volume_reply c.in-Cards.is)
+returns-in-Ok c = c.counted.ensures ∙ sym (ap volume_reply c.in-Ok.is)
 
-pub returns-in-Refused : goal.returns-in-Refused
+pub returns-in-Err : goal.returns-in-Err
 unfolding volume_reply
-returns-in-Refused c = c.refused.ensures ∙ sym (ap volume_reply c.in-Refused.is)
+returns-in-Err c = c.refused.ensures ∙ sym (ap volume_reply c.in-Err.is)

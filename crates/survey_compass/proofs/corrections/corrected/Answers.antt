@@ -1,15 +1,8 @@
 -- `survey_compass::corrections::corrected` meets its contract.
 use mathlib.Core.Path.{ap, ◌∙◌}
-use native.Mathlib.Omega.{arith}
 use Rattle.survey_compass.specs.Corrections.{turned}
 use Rattle.survey_compass.proofs.Reading.{summed}
 use Rattle.survey_compass.proofs.corrections.corrected.Goals as goal
-
-pub correction_in-fixed-requires : goal.correction_in-fixed-requires
-correction_in-fixed-requires c = (omega arith, omega arith, omega (arith, c.requires.0))
-
-pub nearest_on-used-requires : goal.nearest_on-used-requires
-nearest_on-used-requires c = (c.requires.0, c.requires.2)
 
 pub into_circle-requires : goal.into_circle-requires
 into_circle-requires c =

@@ -1,16 +1,28 @@
 -- `survey_compass::corrections::into_circle` meets its contract.
-use mir.ValLaws.{to_z-of_z}
-use mir.Syntax.{w64}
+use mathlib.Core.Path.{refl, ◌∙◌}
 use native.Mathlib.Omega.{arith}
-use Rattle.survey_compass.proofs.Turning.{turn-some, turned-is}
+use lib.IntN.{pos}
+use Rattle.std.proofs.Common.{rules}
+use Rattle.survey_compass.specs.Corrections.{turn}
+use Rattle.survey_compass.proofs.Turning.{turn-some, turn-most, turn_signed, turned-is}
 use Rattle.survey_compass.proofs.corrections.into_circle.Goals as goal
 
-pub whole_turn-requires : goal.whole_turn-requires
-whole_turn-requires c = c.requires
+pub overflow_cast-turn : goal.overflow_cast-turn
+overflow_cast-turn c =
+    let m = turn-most c.args.sum.places c.requires in
+    rw c.whole_turn-turn.ensures (record { sfits = omega (arith, m) })
 
-pub into-rest-requires : goal.into-rest-requires
-into-rest-requires c = omega (arith, c.whole_turn.ensures, turn-some c.args.sum.places)
+pub rem_euclid-requires-clause-nonzero : goal.rem_euclid-requires-clause-nonzero
+rem_euclid-requires-clause-nonzero c =
+    let s = turn-some c.args.sum.places in
+    rw (turn_signed _ c.requires _ c.whole_turn-turn.ensures) (omega (arith, s))
+
+pub rem_euclid-requires-clause-no_overflow : goal.rem_euclid-requires-clause-no_overflow
+rem_euclid-requires-clause-no_overflow c =
+    let m = turn-most c.args.sum.places c.requires in
+    rw (turn_signed _ c.requires _ c.whole_turn-turn.ensures) (λ h k. absurd (omega (arith, m, h)))
 
 pub returns : goal.returns
 returns c =
-    turned-is c.args.sum c.requires _ c.whole_turn.ensures _ (to_z-of_z w64 c.args.sum.units (record { sfits = c.struct_told-1.given.0.1 })) _ c.into-rest.ensures.0 c.into-rest.ensures.1 c.signed.result c.signed.ensures _ c.new.ensures
+    let v = rw c.whole_turn-turn.ensures at c.rem_euclid.ensures.value in
+    c.new.ensures ∙ turned-is c.args.sum c.requires (pos (turn c.args.sum.places)) refl _ v (search rules)

@@ -6,17 +6,11 @@ use Rattle.survey_compass.proofs.Nearest.{nearest_below}
 use Rattle.survey_compass.proofs.Reading.{none_used, one_used}
 use Rattle.survey_compass.proofs.corrections.nearest_on.Goals as goal
 
-pub least_rank-least-requires : goal.least_rank-least-requires
-least_rank-least-requires c = c.requires.1
-
 pub returns-then-least-eq-UNLISTED : goal.returns-then-least-eq-UNLISTED
 unfolding nothing
 returns-then-least-eq-UNLISTED c =
     let a = c.args in
     none_used a.card.now a.asked _ c.least_rank-least.ensures c.if-least-eq-UNLISTED.true
-
-pub nearest_to-requires : goal.nearest_to-requires
-nearest_to-requires c = (c.requires.1, c.least_rank-least.ensures)
 
 pub correction_at-requires : goal.correction_at-requires
 correction_at-requires c =

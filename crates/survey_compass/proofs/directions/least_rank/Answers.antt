@@ -1,22 +1,22 @@
 -- `survey_compass::directions::least_rank` meets its contract.
-use native.Mathlib.Omega.{arith}
-use Rattle.survey_compass.proofs.Nearest.{least-none, least_more, least-all}
+use mathlib.Core.Path.{◌≡◌, ◌∙◌, refl}
+use mathlib.Core.List.{List, map}
+use Prim.Native.Nat.{ℕ, min}
+use Rattle.std.specs.List.{fold, range_with_len}
+use Rattle.std.proofs.Common.{rules}
+use Rattle.std.proofs.lemmas.Iterator.{YieldsList-from_range, YieldsList-from_map}
+use Rattle.std.proofs.lemmas.Iterator.Consumers.{fold_from_yields_List}
+use Rattle.survey_compass.specs.Directions.{unlisted, rank_at, least_to, least_rank}
 use Rattle.survey_compass.proofs.directions.least_rank.Goals as goal
 
-pub loop-pair-init : goal.loop-pair-init
-loop-pair-init c = (omega arith, least-none _ _)
-
-pub rank_at-requires : goal.rank_at-requires
-rank_at-requires c = (c.requires, omega (arith, c.loop-pair-test.true))
-
-pub loop-pair-preserved : goal.loop-pair-preserved
-loop-pair-preserved c =
-    let l = c.loop-pair in
-    let a = c.args in
-    (omega arith, least_more a.card.now a.asked l.pair _ _ _ l.invariant.1 c.rank_at.ensures c.smaller-least.ensures)
+least_folded : (s : List ℕ) (asked : ℕ) → fold min unlisted (map (rank_at s asked) (range_with_len 0 8)) ≡ least_rank s asked
+unfolding least_rank least_to
+least_folded s asked = refl
 
 pub returns : goal.returns
 returns c =
-    let l = c.loop-pair in
     let a = c.args in
-    least-all a.card.now a.asked l.pair _ l.invariant.1 (omega (arith, l.invariant.0))
+    fold_from_yields_List _ min unlisted _ c.fold.ensures.ran
+    (YieldsList-from_map _ (rank_at a.card.now a.asked) (YieldsList-from_range 0 8 8 (cc) refl) c.map.ensures.closure (λ x r q k. search rules))
+    (λ a x b q k. search rules)
+    ∙ least_folded a.card.now a.asked

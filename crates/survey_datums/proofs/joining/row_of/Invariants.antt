@@ -1,12 +1,17 @@
 -- `survey_datums::joining::row_of` meets its contract.
-use Prim.Native.Nat.{ℕ, ◌-◌, ◌/◌, ◌≤◌, ◌<◌}
 use mathlib.Core.Path.{◌≡◌}
-use lib.ListN.{length, get_or}
-use Rattle.survey_datums.specs.Datums.{joining_to}
+use lib.ListN.{length}
+use Rattle.std.specs.Iterator.Adapters.{enumerate_count, enumerate_source}
+use Rattle.std.specs.Slice.Iter.{chunks_exact_rest, chunks_exact_size}
+use Rattle.survey_datums.proofs.Noting.{Reading, Filled}
 use Rattle.survey_datums.proofs.joining.row_of.Given as goal
 
 abbrev pub invariant-loop-place : goal.invariant-loop-place
-invariant-loop-place l = (l.place ≤ length l.header / 80) × (length l.row ≡ 9) × ((b : ℕ) → b < 9 → get_or l.row b 0 ≡ joining_to l.header l.datum b l.place)
-
-abbrev pub decreases-loop-place : goal.decreases-loop-place
-decreases-loop-place l = length l.header / 80 - l.place
+invariant-loop-place l =
+    let cards = enumerate_source l.place-iterator in
+    let n = enumerate_count l.place-iterator in
+    record {
+      reading : Reading l.header (chunks_exact_rest cards) (chunks_exact_size cards) n;
+      long : length l.row ≡ 9;
+      filled : Filled l.header l.datum l.row n;
+    }

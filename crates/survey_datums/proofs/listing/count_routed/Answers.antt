@@ -1,31 +1,17 @@
 -- `survey_datums::listing::count_routed` meets its contract.
-use Prim.Native.Nat.{◌+◌}
-use native.Mathlib.Omega.{arith}
-use mathlib.Core.Path.{◌≡◌, refl, sym, ap, ap₂, ◌∙◌}
-use Rattle.base_lists.specs.Count.{count}
-use Rattle.base_lists.proofs.Counting.{count_le, count_more}
-use Rattle.survey_datums.specs.Listing.{routed}
-use Rattle.survey_datums.proofs.listing.count_routed.Invariants.{has-route}
+use mathlib.Core.Path.{◌∙◌}
+use lib.Dec.{ltb}
+use Rattle.std.proofs.Common.{rules, tests}
+use Rattle.std.proofs.lemmas.Iterator.{YieldsList-from_slice}
+use Rattle.std.proofs.lemmas.Iterator.Consumers.{YieldsList-at, YieldsList-from_filter, count_from_yields_List}
+use Rattle.survey_datums.proofs.Laying.{routed_passing}
 use Rattle.survey_datums.proofs.listing.count_routed.Goals as goal
 
-pub loop-datum-init : goal.loop-datum-init
-unfolding count
-loop-datum-init c = (omega arith, refl)
-
-pub overflow_add-number : goal.overflow_add-number
-overflow_add-number c =
-    let b = c.loop-datum in
-    omega (arith, c.bit_of-number.ensures.1, b.invariant.0, b.invariant.1, count_le (has-route c.args.shifts) b.datum)
-
-pub loop-datum-preserved : goal.loop-datum-preserved
-loop-datum-preserved c =
-    let b = c.loop-datum in
-    let p = has-route c.args.shifts in
-    (omega (arith, c.loop-datum-test.true), ap₂ ◌+◌ b.invariant.1 c.bit_of-number.ensures.0 ∙ sym (count_more p b.datum))
-
 pub returns : goal.returns
-unfolding routed
 returns c =
-    let b = c.loop-datum in
-    let e : b.datum ≡ 9 = omega (arith, b.invariant.0, c.loop-datum-test.false) in
-    b.invariant.1 ∙ ap (count (has-route c.args.shifts)) e
+    let w = c.args.shifts in
+    count_from_yields_List c.filter.result _ c.count.ensures.ran
+    (YieldsList-from_filter _ (λ x. ltb x 9) (YieldsList-at c.filter.ensures.source (YieldsList-from_slice w cc))
+    c.filter.ensures.closure
+    (λ x r q k. search (rules, tests)))
+    ∙ routed_passing w c.well_formed.0.1.0.1

@@ -7,24 +7,24 @@ use Rattle.tie_check.proofs.flagging.Kept.{length_to, none-to, more_to}
 use Rattle.tie_check.proofs.flagging.flag_shared.Goals as goal
 
 pub loop-i-init : goal.loop-i-init
-loop-i-init c = (omega arith, none-to c.args.keys.now c.args.links.now c.args.cards.now)
+loop-i-init c = none-to c.args.keys.now c.args.links.now c.args.cards.now
 
 pub flag_entry-requires : goal.flag_entry-requires
 flag_entry-requires c =
     let b = c.loop-i in
     record {
-      cards_len = ap length b.invariant.1 ∙ length_to c.args.keys.now c.args.links.now c.args.cards.now b.i ∙ c.requires.cards_len;
+      cards_len = ap length b.invariant ∙ length_to c.args.keys.now c.args.links.now c.args.cards.now b.i ∙ c.requires.cards_len;
       linked = c.requires.linked;
-      i_bound = omega (arith, c.loop-i-test.true, c.entries_in-n.ensures);
+      i_bound = omega (arith, c.loop-i-test.true, c.entries_in-i-end.ensures);
     }
 
 pub loop-i-preserved : goal.loop-i-preserved
 loop-i-preserved c =
     let b = c.loop-i in
-    (omega arith, more_to c.args.keys.now c.args.links.now c.args.cards.now _ _ b.i b.invariant.1 c.flag_entry.ensures)
+    more_to c.args.keys.now c.args.links.now c.args.cards.now _ _ b.i b.invariant c.flag_entry.ensures
 
 pub returns : goal.returns
 returns c =
     let b = c.loop-i in
-    let q : b.i ≡ c.entries_in-n.result = omega (arith, b.invariant.0) in
-    b.invariant.1 ∙ ap (flagged_to c.args.cards.now c.args.keys.now c.args.links.now) (q ∙ c.entries_in-n.ensures)
+    let q : b.i ≡ c.entries_in-i-end.result = omega (arith, c.loop-i-test.false) in
+    b.invariant ∙ ap (flagged_to c.args.cards.now c.args.keys.now c.args.links.now) (q ∙ c.entries_in-i-end.ensures)

@@ -8,16 +8,16 @@ use Rattle.tie_check.proofs.gather.gather_card.Goals as goal
 
 pub loop-slot-init : goal.loop-slot-init
 unfolding with_slots
-loop-slot-init c = (omega arith, refl, refl)
+loop-slot-init c = (refl, refl)
 
 pub returns-then-row-eq0 : goal.returns-then-row-eq0
 returns-then-row-eq0 c =
     let b = c.loop-slot in
     let t = store c.args.keys.now c.args.links.now in
-    let e = slot_rest t c.args.card.now c.args.tag b.slot _ c.args.layout c.requires.layout_value c.tie_of-row.ensures c.if-row-eq0.true b.invariant.0 in
+    let e = slot_rest t c.args.card.now c.args.tag b.slot _ c.args.layout c.requires.layout_value c.tie_of-row.ensures c.if-row-eq0.true (omega (arith, c.loop-slot-test.true)) in
     record {
-      keys = b.invariant.1 ∙ ap (λ (x : Store). x.keys) e;
-      links = b.invariant.2 ∙ ap (λ (x : Store). x.links) e;
+      keys = b.invariant.0 ∙ ap (λ (x : Store). x.keys) e;
+      links = b.invariant.1 ∙ ap (λ (x : Store). x.links) e;
     }
 
 pub gather_number-requires : goal.gather_number-requires
@@ -27,11 +27,11 @@ gather_number-requires c =
     let n = count_in c.args.links.now in
     let k = c.args.card.now in
     let w : Well t n = record { linked = c.requires.linked; few = omega arith } in
-    let u = slots_well t n w c.requires.on_card_bound k c.args.tag b.slot b.invariant.0 in
+    let u = slots_well t n w c.requires.on_card_bound k c.args.tag b.slot (omega (arith, c.loop-slot-test.true)) in
     let e = number_is t k c.args.tag b.slot _ c.args.layout c.requires.layout_value c.tie_of-row.ensures _ c.defined_by.ensures in
     record {
-      linked = rw (b.invariant.1, b.invariant.2) u.linked;
-      links_bound = rw b.invariant.2 (slot_room t n w c.requires.on_card_bound k c.args.tag b.slot c.loop-slot-test.true _ e);
+      linked = rw (b.invariant.0, b.invariant.1) u.linked;
+      links_bound = rw b.invariant.1 (slot_room t n w c.requires.on_card_bound k c.args.tag b.slot c.loop-slot-test.true _ e);
     }
 
 pub loop-slot-preserved : goal.loop-slot-preserved
@@ -39,15 +39,15 @@ loop-slot-preserved c =
     let b = c.loop-slot in
     let t = store c.args.keys.now c.args.links.now in
     let e = slot_more t c.args.card.now c.args.tag b.slot _ c.args.layout c.requires.layout_value c.tie_of-row.ensures _ _ _ _ _
-    c.defined_by.ensures b.invariant.1 b.invariant.2 c.gather_number.ensures.keys
+    c.defined_by.ensures b.invariant.0 b.invariant.1 c.gather_number.ensures.keys
     c.gather_number.ensures.links in
-    (omega arith, e.0, e.1)
+    e
 
 pub returns : goal.returns
 returns c =
     let b = c.loop-slot in
     let t = store c.args.keys.now c.args.links.now in
-    let q : b.slot ≡ 5 = omega (arith, b.invariant.0) in record {
-      keys = b.invariant.1 ∙ ap (λ i. (with_slots t c.args.card.now c.args.tag i).keys) q;
-      links = b.invariant.2 ∙ ap (λ i. (with_slots t c.args.card.now c.args.tag i).links) q;
+    let q : b.slot ≡ 5 = omega (arith, c.loop-slot-test.false) in record {
+      keys = b.invariant.0 ∙ ap (λ i. (with_slots t c.args.card.now c.args.tag i).keys) q;
+      links = b.invariant.1 ∙ ap (λ i. (with_slots t c.args.card.now c.args.tag i).links) q;
     }

@@ -81,15 +81,15 @@ any_left-left-requires c =
 
 pub loop-i-init : goal.loop-i-init
 unfolding up_to flat_map stored_all
-loop-i-init c = (omega arith, omega arith, refl, sym (add-zero _))
+loop-i-init c = (omega arith, refl, sym (add-zero _))
 
 pub step_of-row-requires : goal.step_of-row-requires
-step_of-row-requires c = omega (arith, c.loop-i.invariant.0)
+step_of-row-requires c = omega (arith, c.loop-i-test.true)
 
 pub shape_of-list-then-row-eq0 : goal.shape_of-list-then-row-eq0
 shape_of-list-then-row-eq0 c =
     let b = c.loop-i in
-    ap length b.invariant.2 ∙ length-stored-all _ _ _
+    ap length b.invariant.1 ∙ length-stored-all _ _ _
 
 pub returns-then-row-eq0 : goal.returns-then-row-eq0
 returns-then-row-eq0 c =
@@ -104,12 +104,12 @@ returns-then-row-eq0 c =
     let l = c.any_left-left.result in
     let n = layout_is in
     let z = step-none h c.requires.header_value p (below) l _ b.i _ n c.step_of-row.ensures c.if-row-eq0.true in
-    let q = run_rest (step_entries h p l) b.i 81 b.invariant.0 (λ i j m. no_step h p l i (walked_end l _ b.i z i j))
+    let q = run_rest (step_entries h p l) b.i 81 (omega (arith, c.loop-i-test.true)) (λ i j m. no_step h p l i (walked_end l _ b.i z i j))
     in
     let w = sym q ∙ all_steps h p l (left_is) in record {
-      list = b.invariant.2 ∙ ap (stored_all c.args.list.now c.args.found) w;
-      number = b.invariant.3 ∙ ap (λ x. c.args.found + length x) w;
-      few = omega (arith, b.invariant.0, b.invariant.1);
+      list = b.invariant.1 ∙ ap (stored_all c.args.list.now c.args.found) w;
+      number = b.invariant.2 ∙ ap (λ x. c.args.found + length x) w;
+      few = omega (arith, b.invariant.0);
     }
 
 pub faults_by-broken-requires : goal.faults_by-broken-requires
@@ -155,7 +155,7 @@ put_all-m-requires c =
     let below : c.args.place < cards_in c.args.header.now = (c.requires.place_bound.0) in
     let few : cards_in c.args.header.now ≤ largest = (few-cards c.args.header.now c.requires.header_value) in
     let b = c.loop-i in
-    omega (arith, b.invariant.0, b.invariant.1, below, c.requires.place_bound.1, few)
+    omega (arith, b.invariant.0, below, c.requires.place_bound.1, few)
 
 pub loop-i-preserved : goal.loop-i-preserved
 loop-i-preserved c =
@@ -169,14 +169,14 @@ loop-i-preserved c =
     let e = step_gives h c.requires.header_value c.args.place (below) l _ b.i _ n c.step_of-row.ensures _ _ _ _ _ _ _ _ _
     (once-told) (card_part h c.args.place) c.vessel_of-vessel.ensures c.requires.store_value.0 c.requires.store_value.1 c.requires.totals_value c.column_of.ensures c.faults_by-broken.ensures
     c.step_left-misplaced.ensures in
-    let r = run_more (step_entries h c.args.place l) _ _ _ _ _ _ b.i b.invariant.2 b.invariant.3
-    (c.put_all-m.ensures.list ∙ ap (stored_all b.list b.m) e) (c.put_all-m.ensures.number ∙ ap (λ x. b.m + length x) e) in
-    (omega arith, omega (arith, b.invariant.1, c.put_all-m.ensures.few), r.0, r.1)
+    let r = run_more (step_entries h c.args.place l) _ _ _ _ _ _ b.i b.invariant.1 b.invariant.2
+    ((rw c.from.ensures at c.put_all-m.ensures.list) ∙ ap (stored_all b.list b.m) e) ((rw c.from.ensures at c.put_all-m.ensures.number) ∙ ap (λ x. b.m + length x) e) in
+    (omega (arith, b.invariant.0, c.put_all-m.ensures.few), r.0, r.1)
 
 pub shape_of-list : goal.shape_of-list
 shape_of-list c =
     let b = c.loop-i in
-    ap length b.invariant.2 ∙ length-stored-all _ _ _
+    ap length b.invariant.1 ∙ length-stored-all _ _ _
 
 pub returns : goal.returns
 returns c =
@@ -188,9 +188,9 @@ returns c =
     let b = c.loop-i in
     let h = c.args.header.now in
     let g = step_entries h c.args.place c.any_left-left.result in
-    let q : b.i ≡ 81 = omega (arith, b.invariant.0) in
+    let q : b.i ≡ 81 = omega (arith, c.loop-i-test.false) in
     let w = ap (λ j. flat_map g (up_to j)) q ∙ all_steps h c.args.place c.any_left-left.result (left_is) in record {
-      list = b.invariant.2 ∙ ap (stored_all c.args.list.now c.args.found) w;
-      number = b.invariant.3 ∙ ap (λ x. c.args.found + length x) w;
-      few = omega (arith, b.invariant.1);
+      list = b.invariant.1 ∙ ap (stored_all c.args.list.now c.args.found) w;
+      number = b.invariant.2 ∙ ap (λ x. c.args.found + length x) w;
+      few = omega (arith, b.invariant.0);
     }

@@ -1,5 +1,5 @@
 -- `tie_check::listing::list_card` meets its contract.
-use Prim.Native.Nat.{◌+◌, ◌*◌, ◌-◌, ◌≤◌}
+use Prim.Native.Nat.{◌+◌, ◌*◌, ◌≤◌}
 use mathlib.Core.Path.{◌≡◌}
 use mathlib.Core.List.{flat_map}
 use lib.ListN.{length}
@@ -10,8 +10,7 @@ use Rattle.tie_check.specs.packed.Listed.{step_entries}
 use Rattle.tie_check.proofs.listing.list_card.Given as goal
 
 abbrev pub invariant-loop-i : goal.invariant-loop-i
-invariant-loop-i l = (l.i ≤ 81) × (l.m ≤ l.found + kinds * l.i) × (l.list ≡ stored_all l.initial.list l.found (flat_map (step_entries l.header l.place l.left) (up_to l.i)))
+invariant-loop-i l =
+    (l.m ≤ l.found + kinds * l.i)
+    × (l.list ≡ stored_all l.initial.list l.found (flat_map (step_entries l.header l.place l.left) (up_to l.i)))
     × (l.m ≡ l.found + length (flat_map (step_entries l.header l.place l.left) (up_to l.i)))
-
-abbrev pub decreases-loop-i : goal.decreases-loop-i
-decreases-loop-i l = 81 - l.i

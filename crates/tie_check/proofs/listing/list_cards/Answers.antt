@@ -16,7 +16,7 @@ use Rattle.tie_check.proofs.listing.list_cards.Goals as goal
 
 pub loop-place-init : goal.loop-place-init
 unfolding up_to flat_map stored_all
-loop-place-init c = (omega arith, omega arith, refl, refl)
+loop-place-init c = (omega arith, refl, refl)
 
 pub list_card-found-requires : goal.list_card-found-requires
 unfolding cards_in
@@ -27,28 +27,28 @@ list_card-found-requires c =
       flagged = c.requires.flagged;
       store_value = c.requires.store_value;
       totals_value = c.requires.totals_value;
-      place_bound = (omega (arith, c.loop-place-test.true), b.invariant.1);
+      place_bound = (omega (arith, c.loop-place-test.true), b.invariant.0);
     }
 
 pub loop-place-preserved : goal.loop-place-preserved
 loop-place-preserved c =
     let b = c.loop-place in
-    let r = run_more (card_entries c.args.header.now) _ _ _ _ _ _ b.place b.invariant.2 b.invariant.3 c.list_card-found.ensures.list c.list_card-found.ensures.number in
-    (omega arith, omega (arith, b.invariant.1, c.list_card-found.ensures.few), r.0, r.1)
+    let r = run_more (card_entries c.args.header.now) _ _ _ _ _ _ b.place b.invariant.1 b.invariant.2 c.list_card-found.ensures.list c.list_card-found.ensures.number in
+    (omega (arith, b.invariant.0, c.list_card-found.ensures.few), r.0, r.1)
 
 pub shape_of-list : goal.shape_of-list
 shape_of-list c =
     let b = c.loop-place in
-    ap length b.invariant.2 ∙ length-stored-all _ _ _
+    ap length b.invariant.1 ∙ length-stored-all _ _ _
 
 pub returns : goal.returns
 unfolding cards_in entries_to
 returns c =
     let b = c.loop-place in
     let h = c.args.header.now in
-    let q : b.place ≡ length h / 80 = omega (arith, b.invariant.0) in
+    let q : b.place ≡ length h / 80 = omega (arith, c.loop-place-test.false) in
     let g = card_entries h in
     let all : length (flat_map g (up_to b.place)) ≡ length (faults h) = ap (λ i. length (flat_map g (up_to i))) q ∙ all_found h in record {
-      list = b.invariant.2 ∙ ap (λ i. stored_all c.args.list.now 0 (flat_map g (up_to i))) q ∙ all_laid h c.args.list.now;
-      number = omega (arith, b.invariant.3, all);
+      list = b.invariant.1 ∙ ap (λ i. stored_all c.args.list.now 0 (flat_map g (up_to i))) q ∙ all_laid h c.args.list.now;
+      number = omega (arith, b.invariant.2, all);
     }

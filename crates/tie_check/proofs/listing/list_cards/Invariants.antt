@@ -1,5 +1,5 @@
 -- `tie_check::listing::list_cards` meets its contract.
-use Prim.Native.Nat.{◌+◌, ◌*◌, ◌-◌, ◌/◌, ◌≤◌}
+use Prim.Native.Nat.{◌+◌, ◌*◌, ◌≤◌}
 use mathlib.Core.Path.{◌≡◌}
 use mathlib.Core.List.{flat_map}
 use lib.ListN.{length}
@@ -10,9 +10,7 @@ use Rattle.tie_check.specs.packed.Listed.{card_entries}
 use Rattle.tie_check.proofs.listing.list_cards.Given as goal
 
 abbrev pub invariant-loop-place : goal.invariant-loop-place
-invariant-loop-place l = (l.place ≤ length l.header / 80) × (l.found ≤ 81 * kinds * l.place)
+invariant-loop-place l =
+    (l.found ≤ 81 * kinds * l.place)
     × (l.list ≡ stored_all l.initial.list 0 (flat_map (card_entries l.header) (up_to l.place)))
     × (l.found ≡ 0 + length (flat_map (card_entries l.header) (up_to l.place)))
-
-abbrev pub decreases-loop-place : goal.decreases-loop-place
-decreases-loop-place l = length l.header / 80 - l.place

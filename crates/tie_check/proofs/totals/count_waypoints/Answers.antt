@@ -1,32 +1,24 @@
 -- `tie_check::totals::count_waypoints` meets its contract: one number more.
-use mathlib.Core.Path.{◌≡◌, refl, ap, ◌∙◌}
+use mathlib.Core.Path.{refl, ap, ◌∙◌}
 use native.Mathlib.Omega.{arith}
-use Rattle.tie_check.specs.packed.Totals.{waypoints_to}
-use Rattle.tie_check.proofs.gather.Counting.{bins, waypoints_few, one_more}
+use lib.Seq.{get_or-take}
+use Rattle.tie_rules.specs.packed.Numbers.{vessel_in}
+use Rattle.tie_check.specs.packed.Totals.{waypoints_to, counted_up}
+use Rattle.tie_check.proofs.gather.Counting.{waypoints_few, one_more}
 use Rattle.tie_check.proofs.totals.count_waypoints.Goals as goal
 
-pub loop-i-init : goal.loop-i-init
+pub loop-number-init : goal.loop-number-init
 unfolding waypoints_to
-loop-i-init c = (omega arith, refl)
+loop-number-init c = refl
 
-pub count_up-requires : goal.count_up-requires
-count_up-requires c =
-    let b = c.loop-i in
-    let numbers = c.args.numbers.now in
-    let few = waypoints_few numbers b.i c.vessel_in.result c.vessel_in.ensures.1 in
-    record {
-      vessel_bound = c.vessel_in.ensures.1;
-      waypoints_len = rw b.invariant.1 (bins numbers b.i);
-      vessel_bound_2 = rw b.invariant.1 (omega (arith, few, b.invariant.0, c.requires));
-    }
+pub overflow_add-waypoints : goal.overflow_add-waypoints
+overflow_add-waypoints c =
+    let few = waypoints_few c.args.numbers.now c.loop-number.number-index c.vessel_in.result c.vessel_in.ensures.1 in
+    rw c.loop-number.invariant (record { fits = omega (arith, few, c.loop-number-test.true, c.requires) })
 
-pub loop-i-preserved : goal.loop-i-preserved
-loop-i-preserved c =
-    let b = c.loop-i in
-    (omega arith, one_more c.args.numbers.now b.i _ _ _ b.invariant.1 c.vessel_in.ensures.0 c.count_up.ensures)
-
-pub returns : goal.returns
-returns c =
-    let b = c.loop-i in
-    let q : b.i ≡ c.args.n = omega (arith, b.invariant.0) in
-    b.invariant.1 ∙ ap (waypoints_to c.args.numbers.now) q
+pub loop-number-preserved : goal.loop-number-preserved
+unfolding counted_up
+loop-number-preserved c =
+    let b = c.loop-number in
+    let v = c.vessel_in.ensures.0 ∙ ap vessel_in (get_or-take c.args.n c.args.numbers.now b.number-index 0 (omega (arith, c.loop-number-test.true))) in
+    one_more c.args.numbers.now b.number-index _ _ _ b.invariant v refl

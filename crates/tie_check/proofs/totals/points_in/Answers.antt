@@ -1,42 +1,23 @@
 -- `tie_check::totals::points_in` meets its contract.
-use Prim.Native.Nat.{◌/◌, ◌<◌}
-use mathlib.Core.Path.{◌≡◌, ap, ◌∙◌}
-use lib.ListN.{length}
-use native.Mathlib.Omega.{arith}
+use Prim.Native.Nat.{◌/◌}
+use lib.Dec.{eqb}
+use lib.ListN.{length, take}
+use Rattle.std.proofs.Common.{◌∙◌, rules, arith, tests}
+use Rattle.std.proofs.lemmas.Iterator.{YieldsList-from_slice}
+use Rattle.std.proofs.lemmas.Iterator.Consumers.{count_from_yields_List, YieldsList-from_filter}
 use Rattle.header_check.specs.forms.Cards.{cards_in}
-use Rattle.header_check.specs.Refusing.{largest}
-use Rattle.tie_check.specs.packed.Totals.{points_to}
-use Rattle.tie_check.proofs.totals.Points.{no_points, points_more, points-few}
+use Rattle.header_check.specs.packed.Noted.{layout_in}
+use Rattle.tie_check.proofs.totals.Points.{points_noted}
 use Rattle.tie_check.proofs.totals.points_in.Goals as goal
 
-pub loop-place-init : goal.loop-place-init
-loop-place-init c = (omega arith, no_points c.args.header.now)
-
-pub bounds-cards-place : goal.bounds-cards-place
+pub shared_ref_as_front-iter : goal.shared_ref_as_front-iter
 unfolding cards_in
-bounds-cards-place c =
-    let below : c.loop-place.place < largest = (omega (arith, c.loop-place-test.true, c.requires.header_bound)) in
-    omega (arith, below, c.requires.noted.room)
-
-pub overflow_add-found : goal.overflow_add-found
-unfolding cards_in
-overflow_add-found c =
-    let below : c.loop-place.place < largest = (omega (arith, c.loop-place-test.true, c.requires.header_bound)) in
-    let b = c.loop-place in
-    let h = c.args.header.now in
-    omega (arith, c.bit_of-found.ensures.1, b.invariant.1, points-few h b.place, below)
-
-pub loop-place-preserved : goal.loop-place-preserved
-unfolding cards_in
-loop-place-preserved c =
-    let b = c.loop-place in
-    let k = c.layout_in.ensures ∙ c.requires.noted.layouts_are b.place c.loop-place-test.true in
-    (omega arith, points_more c.args.header.now b.place _ _ _ b.invariant.1 k c.bit_of-found.ensures.0)
+shared_ref_as_front-iter c = omega (arith, c.requires.header_bound)
 
 pub returns : goal.returns
 unfolding cards_in
 returns c =
-    let b = c.loop-place in
     let h = c.args.header.now in
-    let q : b.place ≡ length h / 80 = omega (arith, b.invariant.0) in
-    b.invariant.1 ∙ ap (points_to h) q
+    let cards = c.args.cards.now in
+    count_from_yields_List c.filter.result _ c.count.ensures.ran (YieldsList-from_filter _ (λ note. eqb (layout_in note) 13) (YieldsList-from_slice (take (length h / 80) cards) (cc)) c.filter.ensures.closure (λ x b q k. search (rules, tests)))
+    ∙ points_noted h cards (length h / 80) (omega (arith, c.requires.header_bound, c.requires.noted.room)) c.requires.noted.layouts_are

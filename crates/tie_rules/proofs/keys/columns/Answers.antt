@@ -4,20 +4,20 @@ use Rattle.tie_rules.proofs.keys.columns.Goals as goal
 
 pub returns-then-card-from : goal.returns-then-card-from
 returns-then-card-from c =
-    past_card c.args.card.now _ _ _ c.before-from.ensures
+    past_card c.args.card.now _ _ _ c.saturating_sub-from.ensures
     c.if-card-from.true
 
 pub returns-then-last-from : goal.returns-then-last-from
 returns-then-last-from c =
-    no_width c.args.card.now _ _ _ c.before-from.ensures
+    no_width c.args.card.now _ _ _ c.saturating_sub-from.ensures
     c.if-last-from.true
 
 pub returns-then-card-last : goal.returns-then-card-last
 returns-then-card-last c =
     to_end c.args.card.now _ _ _
-    c.before-from.ensures c.if-card-last.true
+    c.saturating_sub-from.ensures c.if-card-last.true
 
 pub returns : goal.returns
 returns c =
     of_width c.args.card.now _ _ _
-    c.before-from.ensures
+    c.saturating_sub-from.ensures

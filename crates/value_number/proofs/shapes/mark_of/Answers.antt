@@ -1,74 +1,42 @@
--- `value_number::shapes::mark_of` meets its contract: the walk keeps: what stands at the front is what it passed and what follows.
-use mathlib.Core.Path.{sym, ap, ◌∙◌}
-use Prim.Native.Nat.{◌+◌}
-use native.Mathlib.Omega.{arith}
-use lib.ListN.{drop}
-use Rattle.base_digits.proofs.digits.Walk.{run_from, run_starts, run_stops, run_goes, run_ends, is_digit_lem, below_digit, above_digit}
+-- `value_number::shapes::mark_of` meets its contract: what stands at the front is what the walk passed and what follows.
+use Rattle.std.proofs.Common.{◌+◌, length, drop, sym, ap, ◌∙◌, arith}
+use borrow.Author.Tests.{eqb-true, eqb-false}
+use Rattle.base_digits.proofs.digits.Walk.{run_from, run_starts, run_stops, run_goes, run_ends}
 use Rattle.value_number.proofs.shapes.Leading.{mark_odd, mark-none, mark-is}
 use Rattle.value_number.proofs.shapes.mark_of.Goals as goal
 
-pub loop-i-init : goal.loop-i-init
-loop-i-init c = (omega arith, omega arith, run_starts 0 c.args.t.now)
+pub loop-b-init : goal.loop-b-init
+loop-b-init c = (omega arith, run_starts 0 c.args.t.now)
 
-pub returns-then-b-lt48 : goal.returns-then-b-lt48
-returns-then-b-lt48 c =
-    let b = c.loop-i in
+pub returns-then-not-is_ascii_digit-clause-mark : goal.returns-then-not-is_ascii_digit-clause-mark
+returns-then-not-is_ascii_digit-clause-mark c =
+    let b = c.loop-b in
     let t = c.args.t.now in
-    let l = c.loop-i-test.true in
-    let r = b.invariant.2 ∙ run_stops b.n b.i t l b.invariant.1 (below_digit _ c.if-b-lt48.true) in
-    record {
-      mark = mark_odd t b.n b.i r l;
-      within = omega arith;
-    }
+    let l = c.loop-b-test.true in
+    let other = sym c.is_ascii_digit.ensures.value ∙ c.if-not-is_ascii_digit.true in
+    mark_odd t b.n b.b-index (b.invariant.1 ∙ run_stops b.n b.b-index t l b.invariant.0 other) l
 
-pub returns-then-b-gt57 : goal.returns-then-b-gt57
-returns-then-b-gt57 c =
-    let b = c.loop-i in
+pub loop-b-preserved : goal.loop-b-preserved
+loop-b-preserved c =
+    let b = c.loop-b in
+    let i = b.b-index in
     let t = c.args.t.now in
-    let l = c.loop-i-test.true in
-    let r = b.invariant.2 ∙ run_stops b.n b.i t l b.invariant.1 (above_digit _ c.if-b-gt57.true) in
-    record {
-      mark = mark_odd t b.n b.i r l;
-      within = omega arith;
-    }
-
-pub overflow_mul-n : goal.overflow_mul-n
-overflow_mul-n c = omega (arith, c.loop-i.invariant.1)
-
-pub overflow_add-n : goal.overflow_add-n
-overflow_add-n c = omega (arith, c.loop-i.invariant.1)
-
-pub loop-i-preserved : goal.loop-i-preserved
-loop-i-preserved c =
-    let b = c.loop-i in
-    let t = c.args.t.now in
-    let l = c.loop-i-test.true in (
-      omega arith,
-      omega (arith, c.cap-n.ensures),
-      b.invariant.2
-          ∙ run_goes b.n b.i t l (is_digit_lem _ c.if-b-lt48.false c.if-b-gt57.false)
-          ∙ ap (λ k. run_from k (b.i + 1) (drop (b.i + 1) t)) (sym c.cap-n.ensures),
+    let digit = sym c.is_ascii_digit.ensures.value ∙ c.if-not-is_ascii_digit.false in
+    let next = sym (rw c.from.ensures at c.cap-n.ensures) in (
+      omega (arith, next),
+      b.invariant.1 ∙ run_goes b.n i t c.loop-b-test.true digit ∙ ap (λ k. run_from k (i + 1) (drop (i + 1) t)) next,
     )
 
-pub returns-then-i-eq0 : goal.returns-then-i-eq0
-returns-then-i-eq0 c =
-    let b = c.loop-i in
+pub returns-then-is_empty-clause-mark : goal.returns-then-is_empty-clause-mark
+returns-then-is_empty-clause-mark c =
+    let b = c.loop-b in
     let t = c.args.t.now in
-    let r = b.invariant.2 ∙ run_ends b.n b.i t b.invariant.1 c.loop-i-test.false in
-    record {
-      mark = mark-none t b.n b.i r (omega (arith, b.invariant.0)) c.if-i-eq0.true;
-      within = omega arith;
-    }
+    let none = eqb-true (length t) 0 (sym c.is_empty.ensures ∙ c.if-is_empty.true) in
+    mark-none t b.n b.b-index (b.invariant.1 ∙ run_ends b.n b.b-index t b.invariant.0 c.loop-b-test.false) (omega arith) (omega arith)
 
-pub overflow_add-result : goal.overflow_add-result
-overflow_add-result c = omega (arith, c.loop-i.invariant.1)
-
-pub returns : goal.returns
-returns c =
-    let b = c.loop-i in
+pub returns-clause-mark : goal.returns-clause-mark
+returns-clause-mark c =
+    let b = c.loop-b in
     let t = c.args.t.now in
-    let r = b.invariant.2 ∙ run_ends b.n b.i t b.invariant.1 c.loop-i-test.false in
-    record {
-      mark = mark-is t b.n b.i r (omega (arith, b.invariant.0)) c.if-i-eq0.false;
-      within = omega (arith, b.invariant.1);
-    }
+    let some = eqb-false (length t) 0 (sym c.is_empty.ensures ∙ c.if-is_empty.false) in
+    mark-is t b.n b.b-index (b.invariant.1 ∙ run_ends b.n b.b-index t b.invariant.0 c.loop-b-test.false) (omega arith) (λ z. some (omega arith))

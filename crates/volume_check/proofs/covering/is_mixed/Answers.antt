@@ -1,29 +1,26 @@
 -- `volume_check::covering::is_mixed` meets its contract.
+use mathlib.Core.Path.{refl, ap, ◌∙◌, ◌≡◌}
 use Prim.Native.Nat.{◌/◌}
-use native.Mathlib.Nat.{sub-zero}
-use native.Mathlib.Omega.{arith}
-use mathlib.Core.Path.{sym, ap, ◌∙◌}
 use lib.ListN.{length}
+use Rattle.std.proofs.Common.{rules, tests, nat_eq}
+use Rattle.std.specs.List.{starts_with}
+use Rattle.std.proofs.lemmas.Iterator.Search.{any_from_yields_List}
+use Rattle.volume_form.specs.declared.Form.{Form}
+use Rattle.volume_form.specs.declared.Form.TheVariants.{Old, Wide}
+use Rattle.volume_form.specs.Rows.{row_of}
 use Rattle.volume_rules.specs.Sound.{mixed}
-use Rattle.volume_check.proofs.covering.Walks.{mixed_hit, mixed_on, mixed-none}
+use Rattle.volume_check.proofs.Chunks.{YieldsList-from_cards, mixed_any}
 use Rattle.volume_check.proofs.covering.is_mixed.Goals as goal
 
-pub loop-i-init : goal.loop-i-init
-loop-i-init c = (omega arith, rw sub-zero)
-
-pub returns-then-same : goal.returns-then-same
-returns-then-same c =
-    let v = c.loop-i in
-    let d = c.args.directory.now in
-    sym (ap (λ o. mixed o d (length d / 80)) (sym c.other_code-other.ensures) ∙ v.invariant.1 ∙ mixed_hit _ _ _ v.i c.loop-i-test.true _ c.same.ensures c.if-same.true)
-
-pub loop-i-preserved : goal.loop-i-preserved
-loop-i-preserved c =
-    let v = c.loop-i in
-    (omega (arith, c.loop-i-test.true), v.invariant.1 ∙ mixed_on _ _ _ v.i c.loop-i-test.true _ c.same.ensures c.if-same.false)
+code_long : (form : Form) → length (row_of form).other ≡ 5
+unfolding row_of
+code_long Old = refl
+code_long Wide = refl
 
 pub returns : goal.returns
 returns c =
-    let v = c.loop-i in
     let d = c.args.directory.now in
-    sym (ap (λ o. mixed o d (length d / 80)) (sym c.other_code-other.ensures) ∙ v.invariant.1 ∙ mixed-none _ _ _ v.i c.loop-i-test.false)
+    let is = c.other_code-other.ensures in
+    any_from_yields_List (λ card. starts_with nat_eq card c.other_code-other.result) _ _ _ c.any.ensures.ran
+    (YieldsList-from_cards d c.chunks_exact.ensures.rest c.chunks_exact.ensures.size) (λ x b q k. search (rules, tests))
+    ∙ mixed_any _ (ap length is ∙ code_long c.args.form) (length d / 80) d ∙ ap (λ o. mixed o d (length d / 80)) is

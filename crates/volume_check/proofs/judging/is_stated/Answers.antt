@@ -1,11 +1,13 @@
 -- `volume_check::judging::is_stated` meets its contract.
-use mathlib.Core.Path.{ap}
-use mathlib.Core.Bool.{◌&&◌}
-use lib.Dec.{leb}
+use Rattle.std.proofs.Common.{arith}
+use Rattle.std.proofs.lemmas.Bool.Decides.{nat_tests}
 use Rattle.volume_rules.specs.Judged.{stated}
 use Rattle.volume_check.proofs.judging.is_stated.Goals as goal
 
-pub returns : goal.returns
+pub returns-then-cards-most : goal.returns-then-cards-most
 unfolding stated
-returns c =
-    ap (λ k. leb 1 c.args.cards && (leb c.args.cards k && leb c.args.cards c.args.room)) c.most_of-most.ensures.most
+returns-then-cards-most c = grind (arith, nat_tests)
+
+pub returns-else-cards-most : goal.returns-else-cards-most
+unfolding stated
+returns-else-cards-most c = grind (arith, nat_tests)

@@ -1,10 +1,10 @@
 -- `volume_check::judging::judge` meets its contract.
 use mathlib.Core.Path.{sym, ap, ◌∙◌}
 use Rattle.volume_form.specs.Rows.{row_of}
-use Rattle.header_check.specs.declared.Checked.TheVariants.{Refused}
 use Rattle.volume_check.proofs.judging.Parts.{stated-held, stated-cards, stated-few, stated-said, not-stated}
 use native.Mathlib.Omega.{arith}
 use Rattle.volume_check.proofs.judging.judge.Goals as goal
+use Rattle.std.specs.Prelude.{Err}
 
 pub overflow_mul-cards : goal.overflow_mul-cards
 overflow_mul-cards c =
@@ -24,4 +24,4 @@ returns-then-is_stated c =
 
 pub returns : goal.returns
 returns c =
-    ap Refused c.refuse.ensures ∙ not-stated (row_of c.args.form) c.args.cards c.args.buffer.now (sym c.is_stated.ensures ∙ c.if-is_stated.false)
+    ap Err c.refuse.ensures ∙ not-stated (row_of c.args.form) c.args.cards c.args.buffer.now (sym c.is_stated.ensures ∙ c.if-is_stated.false)

@@ -1,9 +1,9 @@
 -- `volume_check::judging::judge_cards` meets its contract.
 use mathlib.Core.Path.{sym, ap, ◌∙◌}
 use Rattle.volume_form.proofs.Cards.{good_row}
-use Rattle.header_check.specs.declared.Checked.TheVariants.{Refused}
 use Rattle.volume_check.proofs.judging.Parts.{body_fits, parts_said, no_trailer}
 use Rattle.volume_check.proofs.judging.judge_cards.Goals as goal
+use Rattle.std.specs.Prelude.{Err}
 
 pub body_of-body-requires : goal.body_of-body-requires
 body_of-body-requires c =
@@ -23,4 +23,4 @@ returns-then-is_trailed c =
 
 pub returns : goal.returns
 returns c =
-    ap Refused c.refuse.ensures ∙ no_trailer _ _ _ (sym c.is_trailed.ensures ∙ c.if-is_trailed.false)
+    ap Err c.refuse.ensures ∙ no_trailer _ _ _ (sym c.is_trailed.ensures ∙ c.if-is_trailed.false)

@@ -5,14 +5,14 @@ use Rattle.volume_edit.proofs.Answered.{compact_done, compact_refused}
 use Rattle.volume_edit.proofs.compact.compact_in.Goals as goal
 
 pub write-requires : goal.write-requires
-write-requires c = sym c.judge-checked.ensures ∙ c.in-Accepted.is
+write-requires c = sym c.judge-checked.ensures ∙ c.in-Ok.is
 
-pub returns-in-Accepted : goal.returns-in-Accepted
-returns-in-Accepted c =
-    let w = compact_done (row_of c.args.form) c.args.cards c.args.buffer.now (sym c.judge-checked.ensures ∙ c.in-Accepted.is) _ _ c.write.ensures.number c.write.ensures.buffer in
+pub returns-in-Ok : goal.returns-in-Ok
+returns-in-Ok c =
+    let w = compact_done (row_of c.args.form) c.args.cards c.args.buffer.now (sym c.judge-checked.ensures ∙ c.in-Ok.is) _ _ c.write.ensures.number c.write.ensures.buffer in
     record { answer = w.0; buffer = w.1 }
 
-pub returns-in-Refused : goal.returns-in-Refused
-returns-in-Refused c =
-    let w = compact_refused (row_of c.args.form) c.args.cards c.args.buffer.now _ (sym c.judge-checked.ensures ∙ c.in-Refused.is) in
+pub returns-in-Err : goal.returns-in-Err
+returns-in-Err c =
+    let w = compact_refused (row_of c.args.form) c.args.cards c.args.buffer.now _ (sym c.judge-checked.ensures ∙ c.in-Err.is) in
     record { answer = w.0; buffer = w.1 }

@@ -1,23 +1,16 @@
 -- `volume_edit::compact::is_superseded` meets its contract.
-use native.Mathlib.Nat.{sub-zero}
-use native.Mathlib.Omega.{arith}
-use mathlib.Core.Path.{sym, ◌∙◌}
-use borrow.Author.Rules.{rules}
-use Rattle.volume_edit.proofs.compact.Ways.{later_hit, later_on, later_none}
+use Prim.Native.Nat.{◌/◌}
+use mathlib.Core.Path.{◌∙◌}
+use lib.ListN.{length}
+use Rattle.std.proofs.Common.{rules, tests}
+use Rattle.std.proofs.lemmas.Iterator.Search.{any_from_yields_List}
+use Rattle.volume_rules.specs.SameLine.{same_on}
+use Rattle.volume_check.proofs.Chunks.{YieldsList-from_cards}
+use Rattle.volume_edit.proofs.compact.Ways.{later_any}
 use Rattle.volume_edit.proofs.compact.is_superseded.Goals as goal
 
-pub loop-i-init : goal.loop-i-init
-loop-i-init c = (search rules, rw sub-zero)
-
-pub returns-then-same_line : goal.returns-then-same_line
-returns-then-same_line c =
-    let v = c.loop-i in
-    sym (v.invariant.1 ∙ later_hit _ _ _ v.i c.loop-i-test.true _ c.same_line.ensures c.if-same_line.true)
-
-pub loop-i-preserved : goal.loop-i-preserved
-loop-i-preserved c =
-    let v = c.loop-i in
-    (omega (arith, c.loop-i-test.true), v.invariant.1 ∙ later_on _ _ _ v.i c.loop-i-test.true _ c.same_line.ensures c.if-same_line.false)
-
 pub returns : goal.returns
-returns c = let v = c.loop-i in sym (v.invariant.1 ∙ later_none _ _ _ v.i (omega arith))
+returns c =
+    any_from_yields_List (λ other. same_on c.args.card.now other) _ _ _ c.any.ensures.ran
+    (YieldsList-from_cards c.args.later.now c.chunks_exact.ensures.rest c.chunks_exact.ensures.size) (λ x b q k. search (rules, tests))
+    ∙ later_any c.args.card.now (length c.args.later.now / 80) c.args.later.now

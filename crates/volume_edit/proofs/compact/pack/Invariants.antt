@@ -1,11 +1,7 @@
 -- `volume_edit::compact::pack` meets its contract.
-use Prim.Native.Nat.{◌-◌, ◌≤◌}
 use Rattle.volume_form.specs.Rows.{row_of}
 use Rattle.volume_edit.proofs.compact.Walk.{Pack}
 use Rattle.volume_edit.proofs.compact.pack.Given as goal
 
 abbrev pub invariant-loop-i : goal.invariant-loop-i
-invariant-loop-i l = (l.i ≤ l.count) × Pack (row_of l.form) l.initial.buffer l.body l.count l.buffer l.at l.i l.cards l.lines
-
-abbrev pub decreases-loop-i : goal.decreases-loop-i
-decreases-loop-i l = l.count - l.i
+invariant-loop-i l = Pack (row_of l.form) l.initial.buffer l.body l.count l.buffer l.at l.i l.cards l.lines

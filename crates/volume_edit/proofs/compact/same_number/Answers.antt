@@ -1,8 +1,13 @@
--- `volume_edit::compact::same_number_lem` meets its contract.
-use Rattle.volume_edit.proofs.compact.Ways.{number_same}
+-- `volume_edit::compact::same_number` meets its contract.
+use Rattle.std.proofs.Common.{arith}
+use Rattle.std.proofs.lemmas.Bool.Decides.{nat_tests}
+use Rattle.volume_rules.specs.SameLine.{same_number}
 use Rattle.volume_edit.proofs.compact.same_number.Goals as goal
 
-pub returns : goal.returns
-returns c =
-    number_same _ _ _ _ _ _ _ _ c.read-one.ensures c.read-other.ensures c.sort_of.ensures
-    c.sort_of-2.ensures c.size_of.ensures c.size_of-2.ensures
+pub returns-then-sort_of : goal.returns-then-sort_of
+unfolding same_number
+returns-then-sort_of c = grind (arith, nat_tests)
+
+pub returns-else-sort_of : goal.returns-else-sort_of
+unfolding same_number
+returns-else-sort_of c = grind (arith, nat_tests)

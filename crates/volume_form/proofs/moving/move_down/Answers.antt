@@ -1,23 +1,7 @@
 -- `volume_form::moving::move_down` meets its contract.
-use native.Mathlib.Nat.{add-zero, sub-zero}
-use Rattle.volume_form.proofs.moving.Moves.{down_goes, moved_none}
-use Prim.Native.Nat.{◌-◌}
-use mathlib.Core.Path.{◌≡◌, refl, sym, ◌∙◌}
-use lib.ListN.{length-set}
-use native.Mathlib.Omega.{arith}
-use borrow.Author.Rules.{rules}
+use mathlib.Core.Path.{◌∙◌}
+use Rattle.volume_form.proofs.moving.Moves.{pasted_moved}
 use Rattle.volume_form.proofs.moving.move_down.Goals as goal
 
-pub loop-i-init : goal.loop-i-init
-loop-i-init c = (search rules, refl, rw (add-zero, add-zero, sub-zero))
-
-pub loop-i-preserved : goal.loop-i-preserved
-loop-i-preserved c =
-    let b = c.loop-i in (omega arith, simp length-set b.invariant.1, b.invariant.2 ∙ down_goes b.s _ _ _ b.i 0 c.loop-i-test.true (omega arith) (omega arith))
-
-pub shape_of-s : goal.shape_of-s
-shape_of-s c = c.loop-i.invariant.1
-
 pub returns : goal.returns
-returns c =
-    let b = c.loop-i in let e : c.args.k - b.i ≡ 0 = omega arith in sym (b.invariant.2 ∙ rw e (moved_none b.s _ _))
+returns c = c.copy_within.ensures.after ∙ pasted_moved _ _ _ _

@@ -1,28 +1,22 @@
 -- `volume_form::reading::standing_in` meets its contract.
-use Rattle.volume_form.proofs.reading.Walks.{value_goes, value_ends, value_bound, value_more}
-use Rattle.volume_form.specs.Spelled.{standing}
-use Rattle.base_digits.specs.digits.Figures.{value_from}
-use lib.ListN.{drop}
-use Prim.Native.Nat.{◌+◌, ◌*◌}
-use mathlib.Core.Path.{refl, ap, sym, ◌∙◌}
+use mathlib.Core.Path.{◌≡◌, sym, ap, ◌∙◌}
+use Prim.Native.Nat.{◌+◌, ◌-◌, ◌*◌}
+use lib.ListN.{get_or, drop}
 use native.Mathlib.Omega.{arith}
-use borrow.Author.Rules.{rules}
+use Rattle.base_digits.specs.digits.Figures.{value_from}
+use Rattle.volume_form.specs.Spelled.{standing}
+use Rattle.volume_form.proofs.reading.Walks.{value_goes, value_ends, value_more}
 use Rattle.volume_form.proofs.reading.standing_in.Goals as goal
 
-pub loop-i-init : goal.loop-i-init
-loop-i-init c = (search rules, omega arith, refl)
-
-pub overflow_mul-n : goal.overflow_mul-n
-overflow_mul-n c = let b = c.loop-i in omega (arith, value_bound b.n b.i (omega arith) b.invariant.1)
-
-pub overflow_add-n : goal.overflow_add-n
-overflow_add-n c =
-    let b = c.loop-i in omega (arith, value_bound b.n b.i (omega arith) b.invariant.1, c.value_of.ensures.small)
-
-pub loop-i-preserved : goal.loop-i-preserved
-loop-i-preserved c =
-    let b = c.loop-i in (omega arith, value_more b.n b.i _ c.value_of.ensures.small b.invariant.1, b.invariant.2 ∙ value_goes b.n b.i _ c.loop-i-test.true ∙ ap (λ d. value_from (10 * b.n + d) (drop (b.i + 1) c.args.columns.now)) (sym c.value_of.ensures.value))
+pub loop-b-preserved : goal.loop-b-preserved
+loop-b-preserved c =
+    let b = c.loop-b in
+    let s = c.args.columns.now in
+    let e : c.from.result ≡ get_or s b.b-index 0 - 48 = c.from.ensures ∙ c.saturating_sub.ensures in (
+      value_more b.n b.b-index _ (omega (arith, e, c.type_inv.columns b.b-index)) b.invariant.0,
+      b.invariant.1 ∙ value_goes b.n b.b-index s c.loop-b-test.true ∙ ap (λ d. value_from (10 * b.n + d) (drop (b.b-index + 1) s)) (sym e),
+    )
 
 pub returns : goal.returns
 unfolding standing
-returns c = let b = c.loop-i in sym (b.invariant.2 ∙ value_ends b.n b.i _ c.loop-i-test.false)
+returns c = let b = c.loop-b in sym (b.invariant.1 ∙ value_ends b.n b.b-index _ c.loop-b-test.false)
