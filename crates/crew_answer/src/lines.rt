@@ -17,9 +17,9 @@ const LONGEST_ENTRY: usize = 11 * ENTRY;
 // No answer is longer: a line that begins with broken, and that many entries.
 pub const LONGEST: usize = 28 + MOST * LONGEST_ENTRY;
 
-const SPACE: u8 = 32;
+const SPACE: u8 = b' ';
 
-const NEWLINE: u8 = 10;
+const NEWLINE: u8 = b'\n';
 
 // Puts a byte at a place, where there is room, and answers the next place.
 fn push(out: &mut [u8], at: usize, b: u8) -> usize
@@ -111,6 +111,7 @@ fn push_entries(out: &mut [u8], at: usize, list: &[u32], k: usize) -> usize
     ensures within { result ≤ longest }
 {
     let mut end = at;
+    // By number, as the contract names an entry of the list.
     for i in 0..k {
         end = push_entry(out, end, list, i);
     }

@@ -1,107 +1,91 @@
 // What the columns of a field have to hold, told where they do not (9).
-use crew_io::page;
 use crew_io::page::Page;
 use format_layout::{Field, Form, Kind};
+use std::fmt::Write;
 
 // Puts a field's columns, the first letter as it is given.
-pub fn push_span(out: &mut Page<'_>, n: usize, letter: u8, first: usize, last: usize) -> usize {
-    let begun = page::push(out, n, letter);
-    if first == last {
-        return page::push_form(out, begun, b"olumn #", first as u64, 0, 0);
-    }
-    page::push_form(out, begun, b"olumns # to #", first as u64, last as u64, 0)
+pub fn push_span(out: &mut Page<'_>, letter: u8, first: usize, last: usize) {
+    out.push(letter);
+    let _ = if first == last {
+        write!(out, "olumn {first}")
+    } else {
+        write!(out, "olumns {first} to {last}")
+    };
 }
 
 // Puts that a field's columns do not hold what follows.
-fn push_lacks(out: &mut Page<'_>, n: usize, first: usize, last: usize) -> usize {
-    let span = push_span(out, n, b'C', first, last);
+fn push_lacks(out: &mut Page<'_>, first: usize, last: usize) {
+    push_span(out, b'C', first, last);
     if first == last {
-        return page::push_all(out, span, b" does not hold ");
+        out.push_all(b" does not hold ");
+    } else {
+        out.push_all(b" do not hold ");
     }
-    page::push_all(out, span, b" do not hold ")
 }
 
 // Puts a whole number, which is a digit where there is one column only.
-fn push_whole(out: &mut Page<'_>, n: usize, first: usize, last: usize) -> usize {
+fn push_whole(out: &mut Page<'_>, first: usize, last: usize) {
     if first == last {
-        return page::push_all(out, n, b"a digit.");
+        out.push_all(b"a digit.");
+    } else {
+        out.push_all(b"a whole number.");
     }
-    page::push_all(out, n, b"a whole number.")
 }
 
-// Puts a coordinate: words for an angle, or for a number that ends before the last column.
+// Puts a coordinate: words for an angle, or a number with its letter, which ends before the last column.
 fn push_coordinate(
     out: &mut Page<'_>,
-    n: usize,
     form: Form,
     last: usize,
-    angle: &[u8],
-    metres: &[u8],
-) -> usize {
+    angle: &str,
+    metres: &str,
+    letter: char,
+) {
     if !format_layout::is_grid(form) {
-        return page::push_all(out, n, angle);
+        out.push_all(angle.as_bytes());
+    } else if 0 < last {
+        let end = last - 1;
+        let _ = write!(
+            out,
+            "{metres}: a number that ends in column {end}, and the letter {letter} behind it."
+        );
     }
-    if last == 0 {
-        return n;
-    }
-    page::push_form(out, n, metres, (last - 1) as u64, 0, 0)
 }
 
 // Puts what a field has to hold.
-fn push_wanted(
-    out: &mut Page<'_>,
-    n: usize,
-    kind: Kind,
-    first: usize,
-    last: usize,
-    form: Form,
-) -> usize {
+fn push_wanted(out: &mut Page<'_>, kind: Kind, first: usize, last: usize, form: Form) {
     match kind {
-        Kind::Text | Kind::Comment => n,
-        Kind::Whole => push_whole(out, n, first, last),
-        Kind::Decimal => page::push_all(out, n, b"a number."),
-        Kind::Date => page::push_all(out, n, b"a date of eight digits, YYYYMMDD."),
-        Kind::Latitude => push_coordinate(
-            out,
-            n,
-            form,
-            last,
-            b"a latitude dddmmss.sss with N or S.",
-            b"a northing: a number that ends in column #, and the letter N behind it.",
-        ),
-        Kind::Longitude => push_coordinate(
-            out,
-            n,
-            form,
-            last,
-            b"a longitude dddmmss.sss with E or W.",
-            b"an easting: a number that ends in column #, and the letter E behind it.",
-        ),
+        Kind::Text | Kind::Comment => {}
+        Kind::Whole => push_whole(out, first, last),
+        Kind::Decimal => out.push_all(b"a number."),
+        Kind::Date => out.push_all(b"a date of eight digits, YYYYMMDD."),
+        Kind::Latitude => {
+            let angle = "a latitude dddmmss.sss with N or S.";
+            push_coordinate(out, form, last, angle, "a northing", 'N');
+        }
+        Kind::Longitude => {
+            let angle = "a longitude dddmmss.sss with E or W.";
+            push_coordinate(out, form, last, angle, "an easting", 'E');
+        }
     }
 }
 
 // 9 in a text: it does not begin where it has to.
-fn push_late(out: &mut Page<'_>, n: usize, first: usize, last: usize) -> usize {
-    let words = page::push_all(out, n, b"The text in ");
-    let span = push_span(out, words, b'c', first, last);
-    page::push_form(
-        out,
-        span,
-        b" does not begin in column #.",
-        first as u64,
-        0,
-        0,
-    )
+fn push_late(out: &mut Page<'_>, first: usize, last: usize) {
+    out.push_all(b"The text in ");
+    push_span(out, b'c', first, last);
+    let _ = write!(out, " does not begin in column {first}.");
 }
 
 // 9: what the columns do not hold.
-pub fn push_malformed(out: &mut Page<'_>, n: usize, f: Field, form: Form) -> usize {
+pub fn push_malformed(out: &mut Page<'_>, f: Field, form: Form) {
     let first = f.first;
     let last = f.last;
     let kind = f.kind;
     if matches!(kind, Kind::Text | Kind::Comment) {
-        return push_late(out, n, first, last);
+        push_late(out, first, last);
+    } else {
+        push_lacks(out, first, last);
+        push_wanted(out, kind, first, last, form);
     }
-    let lacks = push_lacks(out, n, first, last);
-    push_wanted(out, lacks, kind, first, last, form)
 }

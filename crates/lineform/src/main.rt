@@ -3,11 +3,13 @@
 
 mod words;
 
+ghost use Rattle.std.specs.Prelude.{◌≤◌, IfOk};
+
 use base_refusal::{Refusal, TOO_MANY, refuse};
 use crew_io::{argument, failure, input};
 
 // The forms that can be asked for.
-#[derive(Drop)]
+#[derive(Clone, Copy)]
 enum Form {
     Disk,
     Cards,
@@ -53,16 +55,6 @@ fn cards_in(input: &[u8]) -> &[u8] {
     &input[..input.len().min(CARDS)]
 }
 
-// Writes cards as a diskette file.
-fn to_disk(rt: &HostRuntime, input: &[u8]) {
-    let mut out = [0u8; FILE];
-    let done = media_diskette::to_diskette(cards_in(input), &mut out);
-    match done {
-        Ok(n) => write(rt, &out[..n]),
-        Err(r) => words::tell(rt, r, "card "),
-    }
-}
-
 // A refusal behind the last line that a header may have is told as too many lines: a longer file was not read to its end.
 fn within(r: Refusal) -> Refusal {
     if LINES < r.card {
@@ -71,46 +63,37 @@ fn within(r: Refusal) -> Refusal {
     r
 }
 
-// Writes a diskette file as cards.
-fn to_cards(rt: &HostRuntime, input: &[u8]) {
-    let mut out = [0u8; HEADER];
-    let done = media_diskette::from_diskette(input, &mut out);
-    match done {
-        Ok(n) => write(rt, &out[..n]),
-        Err(r) => words::tell(rt, within(r), "line "),
+// Converts the input, and answers how many bytes that makes.
+fn convert(form: Form, input: &[u8], out: &mut [u8; FILE]) -> Result<usize, Refusal>
+    ensures { IfOk result (λ n. n ≤ 65600) }
+{
+    match form {
+        Form::Disk => media_diskette::to_diskette(cards_in(input), out),
+        Form::Cards => media_diskette::from_diskette(input, &mut out[..HEADER]).map_err(within),
+        Form::Ascii => media_ebcdic::to_ascii(input, out),
+        Form::Ebcdic => media_ebcdic::to_ebcdic(input, out),
     }
 }
 
-// Writes a tape in EBCDIC as ASCII.
-fn to_ascii(rt: &HostRuntime, input: &[u8]) {
-    let mut out = [0u8; FILE];
-    let done = media_ebcdic::to_ascii(input, &mut out);
-    match done {
-        Ok(n) => write(rt, &out[..n]),
-        Err(r) => words::tell(rt, r, ""),
-    }
-}
-
-// Writes a text in ASCII as EBCDIC.
-fn to_ebcdic(rt: &HostRuntime, input: &[u8]) {
-    let mut out = [0u8; FILE];
-    let done = media_ebcdic::to_ebcdic(input, &mut out);
-    match done {
-        Ok(n) => write(rt, &out[..n]),
-        Err(r) => words::tell(rt, r, ""),
+// What a refusal counts in a form.
+fn counted_in(form: Form) -> &'static str {
+    match form {
+        Form::Disk => "card ",
+        Form::Cards => "line ",
+        Form::Ascii | Form::Ebcdic => "",
     }
 }
 
 // Writes the input in a form.
-fn convert(rt: &HostRuntime, form: Option<Form>, input: &[u8]) {
-    match form {
-        Some(Form::Disk) => to_disk(rt, input),
-        Some(Form::Cards) => to_cards(rt, input),
-        Some(Form::Ascii) => to_ascii(rt, input),
-        Some(Form::Ebcdic) => to_ebcdic(rt, input),
-        None => {
-            let _ = eprintln!(rt; "lineform: usage: lineform disk|cards|ascii|ebcdic");
-        }
+fn answer(rt: &HostRuntime, form: Option<Form>, input: &[u8]) {
+    let Some(form) = form else {
+        let _ = eprintln!(rt; "lineform: usage: lineform disk|cards|ascii|ebcdic");
+        return;
+    };
+    let mut out = [0u8; FILE];
+    match convert(form, input, &mut out) {
+        Ok(n) => write(rt, &out[..n]),
+        Err(r) => words::tell(rt, r, counted_in(form)),
     }
 }
 
@@ -120,7 +103,7 @@ fn main(rt: HostRuntime) {
     let form = form_of(&word[..size]);
     let mut buf = [0u8; ROOM];
     match input::read_all(&mut rt.stdin(), &mut buf) {
-        Ok(n) => convert(&rt, form, &buf[..n]),
+        Ok(n) => answer(&rt, form, &buf[..n]),
         Err(why) => failure::tell(rt.stderr(), b"lineform: standard input", why),
     }
 }

@@ -6,31 +6,25 @@ ghost use Rattle.std.specs.Prelude.{◌<◌};
 use base_refusal::{DATUM_TWICE, Refusal};
 use crew_io::page::Page;
 use crew_io::{failure, input, page};
+use std::fmt::Write;
 use survey_datums::UNDEFINED;
 use survey_datums::routing::{CARDS, DATUMS, NO_ROUTE, SHIFTS};
 
 const PAGE: usize = 4096;
 
 // Shows why no routes are told.
-fn show_refused(out: &mut Page<'_>, header: &[u8], refusal: Refusal) -> usize {
+fn show_refused(out: &mut Page<'_>, header: &[u8], refusal: Refusal) {
     let Refusal {
         number,
         card,
         column,
     } = refusal;
-    let said = page::push_form(
-        out,
-        0,
-        b"refused # # #\n",
-        number as u64,
-        card as u64,
-        column as u64,
-    );
+    let _ = writeln!(out, "refused {number} {card} {column}");
     if number == DATUM_TWICE {
-        let words = b"  A datum is defined more than once, so no route can be told.\n";
-        return page::push_all(out, said, words);
+        out.push_all(b"  A datum is defined more than once, so no route can be told.\n");
+    } else {
+        crew_refusal::tell_refusal(out, header, refusal, format_layout::CARDS);
     }
-    crew_refusal::tell_refusal(out, said, header, refusal, format_layout::CARDS)
 }
 
 // The datum at the other end of a shift, both as the digits that stand on its card.
@@ -43,77 +37,50 @@ fn far_end(card: &[u8], datum: u8) -> u8 {
     }
 }
 
-// Puts a step of a route: its card, and the datum that it leads to.
-fn push_step(out: &mut Page<'_>, n: usize, card: u32, datum: u8) -> usize {
-    let by = page::push_form(out, n, b" =#=> ", card as u64, 0, 0);
-    page::push(out, by, datum)
-}
-
-// Puts the steps of the route from a datum.
-fn push_route(
-    out: &mut Page<'_>,
-    n: usize,
-    header: &[u8],
-    cards: [u32; CARDS],
-    datum: usize,
-) -> usize
+// Puts the steps of the route from a datum: each card, and the datum that it leads to.
+fn push_route(out: &mut Page<'_>, header: &[u8], cards: [u32; CARDS], datum: usize)
     requires { datum < 9 }
 {
-    let mut end = n;
     let mut at = b'1' + datum as u8;
     let route = &cards[datum * SHIFTS..(datum + 1) * SHIFTS];
     for card in route.iter().take_while(|card| **card != 0) {
         at = far_end(page::card_in(header, *card as usize), at);
-        end = push_step(out, end, *card, at);
+        let _ = write!(out, " ={card}=> ");
+        out.push(at);
     }
-    end
 }
 
 // Puts what is told of a datum that is defined.
-fn push_datum(
-    out: &mut Page<'_>,
-    n: usize,
-    header: &[u8],
-    shifts: u8,
-    cards: [u32; CARDS],
-    datum: usize,
-) -> usize
+fn push_datum(out: &mut Page<'_>, header: &[u8], shifts: u8, cards: [u32; CARDS], datum: usize)
     requires { datum < 9 }
 {
-    let number = datum as u64 + 1;
+    let number = datum + 1;
     match shifts {
-        UNDEFINED => n,
-        NO_ROUTE => page::push_form(out, n, b"datum #: no route\n", number, 0, 0),
+        UNDEFINED => {}
+        NO_ROUTE => {
+            let _ = writeln!(out, "datum {number}: no route");
+        }
         _ => {
-            let words = b"datum #: shifts #, #";
-            let told = page::push_form(out, n, words, number, u64::from(shifts), number);
-            let end = push_route(out, told, header, cards, datum);
-            page::push(out, end, b'\n')
+            let _ = write!(out, "datum {number}: shifts {shifts}, {number}");
+            push_route(out, header, cards, datum);
+            out.push(b'\n');
         }
     }
 }
 
 // Shows the routes of all datums.
-fn show_routes(
-    out: &mut Page<'_>,
-    header: &[u8],
-    shifts: [u8; DATUMS],
-    cards: [u32; CARDS],
-) -> usize {
-    let mut end = 0;
+fn show_routes(out: &mut Page<'_>, header: &[u8], shifts: [u8; DATUMS], cards: [u32; CARDS]) {
     for (datum, number) in shifts.iter().enumerate() {
-        end = push_datum(out, end, header, *number, cards, datum);
+        push_datum(out, header, *number, cards, datum);
     }
-    end
 }
 
 // Finds a header's routes, and shows them.
-fn show(out: &mut Page<'_>, header: &[u8]) -> usize {
+fn show(out: &mut Page<'_>, header: &[u8]) {
     let routes = survey_datums::find_routes(header);
     let shifts = routes.shifts;
     let cards = routes.cards;
-    let answer = routes.answer;
-    match answer {
+    match routes.answer {
         Ok(()) => show_routes(out, header, shifts, cards),
         Err(refusal) => show_refused(out, header, refusal),
     }
@@ -123,8 +90,8 @@ fn show(out: &mut Page<'_>, header: &[u8]) -> usize {
 fn reply(rt: &HostRuntime, header: &[u8]) {
     let mut bytes = [0u8; PAGE];
     let mut out = page::on(rt.stdout(), &mut bytes);
-    let n = show(&mut out, header);
-    if let Err(why) = page::finish(&out, n) {
+    show(&mut out, header);
+    if let Err(why) = out.finish() {
         failure::tell(rt.stderr(), b"lineroutes: standard output", why);
     }
 }

@@ -23,64 +23,53 @@ const PAGE: usize = 65536;
 const LINE: usize = 80;
 
 // Tells the entry whose line has ended behind so many others: the first line has none.
-fn explain(
-    out: &mut Page<'_>,
-    n: usize,
-    header: &[u8],
-    keys: &[u64],
-    list: &[u32],
-    lines: usize,
-) -> usize {
+fn explain(out: &mut Page<'_>, header: &[u8], keys: &[u64], list: &[u32], lines: usize) {
     if lines == 0 || list.len() / ENTRY < lines {
-        return n;
+        return;
     }
     let at = (lines - 1) * ENTRY;
     crew_fault::tell_fault(
         out,
-        n,
         header,
         keys,
         list[at],
         list[at + 1],
         list[at + 2],
         list[at + 3],
-    )
+    );
 }
 
 // Puts linecheck's text as it is, and each entry's explanation behind its line.
-fn show_lines(out: &mut Page<'_>, text: &[u8], header: &[u8], keys: &[u64], list: &[u32]) -> usize {
-    let mut end = 0;
+fn show_lines(out: &mut Page<'_>, text: &[u8], header: &[u8], keys: &[u64], list: &[u32]) {
     for (lines, line) in text.split_inclusive(|b| *b == b'\n').enumerate() {
-        end = page::push_all(out, end, line);
+        out.push_all(line);
         if line.ends_with(b"\n") {
-            end = explain(out, end, header, keys, list, lines);
+            explain(out, header, keys, list, lines);
         }
     }
-    end
 }
 
 // Shows how much is broken.
-fn show_broken(out: &mut Page<'_>, header: &[u8], found: usize, list: &[u32]) -> usize {
+fn show_broken(out: &mut Page<'_>, header: &[u8], found: usize, list: &[u32]) {
     let mut keys = [0u64; KEYS];
     places::note(header, &mut keys);
     let mut text = [0u8; lines::LONGEST];
     let size = lines::spell_broken(&mut text, found, list);
-    show_lines(out, &text[..size], header, &keys, list)
+    show_lines(out, &text[..size], header, &keys, list);
 }
 
 // Shows why a header is refused.
-fn show_refused(out: &mut Page<'_>, header: &[u8], refusal: Refusal) -> usize {
+fn show_refused(out: &mut Page<'_>, header: &[u8], refusal: Refusal) {
     let mut text = [0u8; LINE];
     let size = lines::spell_refused(&mut text, refusal.number, refusal.card, refusal.column);
-    let said = page::push_all(out, 0, &text[..size]);
-    crew_refusal::tell_refusal(out, said, header, refusal, FEW_CARDS)
+    out.push_all(&text[..size]);
+    crew_refusal::tell_refusal(out, header, refusal, FEW_CARDS);
 }
 
 // Checks a header, and shows what the check says.
-fn show(out: &mut Page<'_>, header: &[u8]) -> usize {
+fn show(out: &mut Page<'_>, header: &[u8]) {
     let mut list = [0u32; LIST];
-    let ties = crew_answer::check(header, &mut list);
-    match ties {
+    match crew_answer::check(header, &mut list) {
         Ok(n) => show_broken(out, header, n, &list),
         Err(refusal) => show_refused(out, header, refusal),
     }
@@ -90,8 +79,8 @@ fn show(out: &mut Page<'_>, header: &[u8]) -> usize {
 fn reply(rt: &HostRuntime, header: &[u8]) {
     let mut bytes = [0u8; PAGE];
     let mut out = page::on(rt.stdout(), &mut bytes);
-    let n = show(&mut out, header);
-    if let Err(why) = page::finish(&out, n) {
+    show(&mut out, header);
+    if let Err(why) = out.finish() {
         failure::tell(rt.stderr(), b"lineshow: standard output", why);
     }
 }

@@ -3,6 +3,7 @@ use base_digits::digits;
 use crew_io::page::Page;
 use crew_io::{failure, page};
 use format_layout::CARD;
+use std::fmt::Write;
 use value_text::text;
 
 const PAGE: usize = 4096;
@@ -27,10 +28,8 @@ fn unpadded(s: &[u8]) -> &[u8] {
 }
 
 // Puts a number that stands behind blanks, and a blank behind it.
-fn push_first(out: &mut Page<'_>, n: usize, s: &[u8]) -> usize {
-    let read = digits::read_run(unpadded(s), 0);
-    let end = page::push_number(out, n, read.number);
-    page::push(out, end, b' ')
+fn push_first(out: &mut Page<'_>, s: &[u8]) {
+    let _ = write!(out, "{} ", digits::read_run(unpadded(s), 0).number);
 }
 
 // What stands behind the number that stands behind blanks.
@@ -41,34 +40,35 @@ fn behind_first(s: &[u8]) -> &[u8] {
 }
 
 // Puts a text without its blanks, or a dash where there is none.
-fn push_text(out: &mut Page<'_>, n: usize, s: &[u8]) -> usize {
+fn push_text(out: &mut Page<'_>, s: &[u8]) {
     let text = unpadded(text::stretch(s));
     if text.is_empty() {
-        return page::push(out, n, b'-');
+        out.push(b'-');
+    } else {
+        out.push_all(text);
     }
-    page::push_all(out, n, text)
 }
 
 // Puts a line's place, its first card and its number of cards.
-fn push_numbers(out: &mut Page<'_>, n: usize, card: &[u8], place: usize) -> usize {
+fn push_numbers(out: &mut Page<'_>, card: &[u8], place: usize) {
     let numbers = card.get(NUMBERS..CARD).unwrap_or(&[]);
-    let placed = page::push_form(out, n, b"# ", place as u64, 0, 0);
-    let first = push_first(out, placed, numbers);
-    push_first(out, first, behind_first(numbers))
+    let _ = write!(out, "{place} ");
+    push_first(out, numbers);
+    push_first(out, behind_first(numbers));
 }
 
 // Puts a line's sequence number and its name.
-fn push_named(out: &mut Page<'_>, n: usize, card: &[u8]) -> usize {
-    let sequence = push_text(out, n, card.get(SEQUENCE..SEQUENCE_END).unwrap_or(&[]));
-    let blank = page::push(out, sequence, b' ');
-    let name = push_text(out, blank, card.get(NAME..NAME_END).unwrap_or(&[]));
-    page::push(out, name, b'\n')
+fn push_named(out: &mut Page<'_>, card: &[u8]) {
+    push_text(out, card.get(SEQUENCE..SEQUENCE_END).unwrap_or(&[]));
+    out.push(b' ');
+    push_text(out, card.get(NAME..NAME_END).unwrap_or(&[]));
+    out.push(b'\n');
 }
 
 // Puts a line.
-fn push_line(out: &mut Page<'_>, n: usize, card: &[u8], place: usize) -> usize {
-    let numbered = push_numbers(out, n, card, place);
-    push_named(out, numbered, card)
+fn push_line(out: &mut Page<'_>, card: &[u8], place: usize) {
+    push_numbers(out, card, place);
+    push_named(out, card);
 }
 
 // The first directory card, by the trailer of a volume of so many cards.
@@ -83,11 +83,10 @@ pub fn write_lines(rt: &HostRuntime, volume: &[u8], cards: usize) {
     let mut bytes = [0u8; PAGE];
     let mut out = page::on(rt.stdout(), &mut bytes);
     let first = first_entry(volume, cards);
-    let mut end = 0;
     for i in first..cards {
-        end = push_line(&mut out, end, page::card_in(volume, i), i - first + 1);
+        push_line(&mut out, page::card_in(volume, i), i - first + 1);
     }
-    if let Err(why) = page::finish(&out, end) {
+    if let Err(why) = out.finish() {
         failure::tell(rt.stderr(), b"linevolume: standard output", why);
     }
 }

@@ -14,7 +14,7 @@ use format_layout::CARD;
 use volume_edit::{compact, convert};
 
 // What can be asked for.
-#[derive(Drop)]
+#[derive(Clone, Copy)]
 enum Wanted {
     New,
     List,
@@ -23,7 +23,6 @@ enum Wanted {
     Widen,
     Narrow,
     Compact,
-    Other,
 }
 
 // The longest volume, and one card more to notice a longer one.
@@ -39,17 +38,17 @@ fn volume_room() -> [u8; VOLUME]
     [0; VOLUME]
 }
 
-// What an argument asks for.
-fn wanted_by(word: &[u8]) -> Wanted {
+// What an argument asks for, if it asks for anything.
+fn wanted_by(word: &[u8]) -> Option<Wanted> {
     match word {
-        b"new" => Wanted::New,
-        b"list" => Wanted::List,
-        b"get" => Wanted::Get,
-        b"append" => Wanted::Append,
-        b"widen" => Wanted::Widen,
-        b"narrow" => Wanted::Narrow,
-        b"compact" => Wanted::Compact,
-        _ => Wanted::Other,
+        b"new" => Some(Wanted::New),
+        b"list" => Some(Wanted::List),
+        b"get" => Some(Wanted::Get),
+        b"append" => Some(Wanted::Append),
+        b"widen" => Some(Wanted::Widen),
+        b"narrow" => Some(Wanted::Narrow),
+        b"compact" => Some(Wanted::Compact),
+        _ => None,
     }
 }
 
@@ -73,7 +72,7 @@ fn front(volume: &[u8], cards: usize) -> &[u8] {
 // How many cards a volume of so many bytes has; where that is no whole number it is told.
 fn counted(rt: &HostRuntime, size: usize) -> Option<usize> {
     if size % CARD != 0 {
-        words::tell_odd(rt.stderr());
+        words::tell_odd(rt);
         return None;
     }
     Some(size / CARD)
@@ -90,64 +89,61 @@ fn take(rt: &HostRuntime, volume: &mut [u8]) -> Option<usize> {
     }
 }
 
+// Reads a volume, and takes a step with it.
+fn with_volume<F: FnOnce(&mut [u8], usize)>(rt: &HostRuntime, step: F)
+    requires { F.IsAlwaysCallable step }
+{
+    let mut volume = volume_room();
+    if let Some(n) = take(rt, &mut volume) {
+        step(&mut volume, n);
+    }
+}
+
 // Writes the empty volume.
 fn make_new(rt: &HostRuntime) {
     let mut volume = [0u8; CARD];
-    let laid = volume_edit::lay_empty(&mut volume);
-    match laid {
-        Ok(n) => write(rt, front(&volume, n)),
-        Err(r) => words::tell(rt.stderr(), r, Whose::Volume),
-    }
+    write_changed(rt, volume_edit::lay_empty(&mut volume), &volume);
 }
 
 // Lists the lines of a volume.
 fn list_lines(rt: &HostRuntime, volume: &[u8], cards: usize) {
-    let lines = volume_check::lines(volume, cards);
-    match lines {
+    match volume_check::lines(volume, cards) {
         Ok(_) => listing::write_lines(rt, volume, cards),
-        Err(r) => words::tell(rt.stderr(), r, Whose::Volume),
+        Err(r) => words::tell(rt, r, Whose::Volume),
     }
 }
 
 // Writes the header at a place.
 fn get_line(rt: &HostRuntime, volume: &[u8], cards: usize, place: usize) {
-    let found = volume_check::find_line(volume, cards, place);
-    match found {
+    match volume_check::find_line(volume, cards, place) {
         Ok(_) => write(rt, volume_check::line(volume, cards, place)),
-        Err(r) => words::tell(rt.stderr(), r, Whose::Volume),
+        Err(r) => words::tell(rt, r, Whose::Volume),
     }
 }
 
 // Tells why a header is not appended: whether its own offence or one in the volume.
 fn tell_append(rt: &HostRuntime, volume: &[u8], cards: usize, r: Refusal) {
-    let lines = volume_check::lines(volume, cards);
-    match lines {
-        Ok(_) => words::tell(rt.stderr(), r, Whose::Header),
-        Err(_) => words::tell(rt.stderr(), r, Whose::Volume),
+    match volume_check::lines(volume, cards) {
+        Ok(_) => words::tell(rt, r, Whose::Header),
+        Err(_) => words::tell(rt, r, Whose::Volume),
     }
 }
 
 // Writes the volume with a header at its end.
 fn append_line(rt: &HostRuntime, volume: &mut [u8], cards: usize, header: &[u8]) {
-    let appended = volume_edit::append(volume, cards, header);
-    match appended {
+    match volume_edit::append(volume, cards, header) {
         Ok(n) => write(rt, front(volume, n)),
         Err(r) => tell_append(rt, volume, cards, r),
-    }
-}
-
-// Reads the volume behind the header.
-fn append_to(rt: &HostRuntime, header: &[u8]) {
-    let mut volume = volume_room();
-    if let Some(n) = take(rt, &mut volume) {
-        append_line(rt, &mut volume, n, header);
     }
 }
 
 // Reads the header, which fills what is lent for it.
 fn append_from(rt: &HostRuntime, header: &mut [u8]) {
     match input::read_all(&mut rt.stdin(), header) {
-        Ok(n) => append_to(rt, first(header, n)),
+        Ok(n) => {
+            let header = first(header, n);
+            with_volume(rt, |volume, cards| append_line(rt, volume, cards, header));
+        }
         Err(why) => failure::tell(rt.stderr(), b"linevolume: standard input", why),
     }
 }
@@ -156,44 +152,17 @@ fn append_from(rt: &HostRuntime, header: &mut [u8]) {
 fn append(rt: &HostRuntime, size: usize) {
     let mut header = input::room();
     if input::ROOM < size {
-        words::say(rt.stderr(), b"linevolume: the header is too long\n");
+        let _ = eprintln!(rt; "linevolume: the header is too long");
         return;
     }
     append_from(rt, &mut header[..size]);
 }
 
-// Brings a volume into another form, or drops superseded lines.
-fn changed_by(wanted: Wanted, volume: &mut [u8], cards: usize) -> Result<usize, Refusal> {
-    match wanted {
-        Wanted::Widen => convert::widen(volume, cards),
-        Wanted::Narrow => convert::narrow(volume, cards),
-        _ => compact::compact(volume, cards),
-    }
-}
-
 // Writes a volume that is changed.
-fn change(rt: &HostRuntime, wanted: Wanted, volume: &mut [u8], cards: usize) {
-    let changed = changed_by(wanted, volume, cards);
+fn write_changed(rt: &HostRuntime, changed: Result<usize, Refusal>, volume: &[u8]) {
     match changed {
         Ok(n) => write(rt, front(volume, n)),
-        Err(r) => words::tell(rt.stderr(), r, Whose::Volume),
-    }
-}
-
-// Does what is asked for with a volume.
-fn answer(rt: &HostRuntime, wanted: Wanted, volume: &mut [u8], cards: usize, place: usize) {
-    match wanted {
-        Wanted::List => list_lines(rt, volume, cards),
-        Wanted::Get => get_line(rt, volume, cards, place),
-        _ => change(rt, wanted, volume, cards),
-    }
-}
-
-// Reads the volume, and does what is asked for.
-fn read_and_answer(rt: &HostRuntime, wanted: Wanted, place: usize) {
-    let mut volume = volume_room();
-    if let Some(n) = take(rt, &mut volume) {
-        answer(rt, wanted, &mut volume, n, place);
+        Err(r) => words::tell(rt, r, Whose::Volume),
     }
 }
 
@@ -201,12 +170,18 @@ fn read_and_answer(rt: &HostRuntime, wanted: Wanted, place: usize) {
 fn run(rt: &HostRuntime, wanted: Wanted, number: usize) {
     match wanted {
         Wanted::New => make_new(rt),
+        Wanted::List => with_volume(rt, |volume, n| list_lines(rt, volume, n)),
+        Wanted::Get => with_volume(rt, |volume, n| get_line(rt, volume, n, number)),
         Wanted::Append => append(rt, number),
-        Wanted::Other => words::say(
-            rt.stderr(),
-            b"linevolume: usage: linevolume new|list|get PLACE|append SIZE|widen|narrow|compact\n",
-        ),
-        _ => read_and_answer(rt, wanted, number),
+        Wanted::Widen => with_volume(rt, |volume, n| {
+            write_changed(rt, convert::widen(volume, n), volume);
+        }),
+        Wanted::Narrow => with_volume(rt, |volume, n| {
+            write_changed(rt, convert::narrow(volume, n), volume);
+        }),
+        Wanted::Compact => with_volume(rt, |volume, n| {
+            write_changed(rt, compact::compact(volume, n), volume);
+        }),
     }
 }
 
@@ -216,5 +191,12 @@ fn main(rt: HostRuntime) {
     let mut digit = [0u8; WORD];
     let count = argument::word(&rt, 2, &mut digit);
     let number = digits::read_run(&digit[..count], 0).number as usize;
-    run(&rt, wanted_by(&word[..size]), number);
+    match wanted_by(&word[..size]) {
+        Some(wanted) => run(&rt, wanted, number),
+        None => {
+            let _ = eprintln!(&rt;
+                "linevolume: usage: linevolume new|list|get PLACE|append SIZE|widen|narrow|compact"
+            );
+        }
+    }
 }

@@ -23,17 +23,13 @@ const LF: u8 = 10;
 const LINE_END: usize = 2;
 
 // An answer that is a length, if the output has room for it.
+#[tactic(auto, using(std::proofs::lemmas::Bool::Decides::nat_tests))]
 fn in_room(answer: Result<usize, Refusal>, room: usize) -> Result<usize, Refusal>
     ensures { result ≡ in_room room answer }
 {
     match answer {
-        Ok(n) => {
-            if room < n {
-                return Err(refuse(NO_OUTPUT, 0, 0));
-            }
-            Ok(n)
-        }
-        Err(r) => Err(r),
+        Ok(n) if room < n => Err(refuse(NO_OUTPUT, 0, 0)),
+        _ => answer,
     }
 }
 
@@ -104,14 +100,9 @@ pub fn to_diskette(cards: &[u8], out: &mut [u8]) -> Result<usize, Refusal>
     ensures out { out.new
         ≡ output_by (to_answer cards.now (length out.old)) (disk_of cards.now) out.old }
 {
-    let answer = in_room(judge_cards(cards), out.len());
-    match answer {
-        Ok(n) => {
-            lay_lines(out, cards);
-            Ok(n)
-        }
-        Err(r) => Err(r),
-    }
+    let n = in_room(judge_cards(cards), out.len())?;
+    lay_lines(out, cards);
+    Ok(n)
 }
 
 // The offence of a byte that begins no line end, behind k bytes of its line; 0 for none. Most bytes have none, and need two
@@ -224,12 +215,7 @@ pub fn from_diskette(file: &[u8], out: &mut [u8]) -> Result<usize, Refusal>
     ensures out { out.new
         ≡ output_by (from_answer file.now (length out.old)) (cards_from file.now) out.old }
 {
-    let answer = in_room(judge_file(file), out.len());
-    match answer {
-        Ok(n) => {
-            lay_cards(out, file);
-            Ok(n)
-        }
-        Err(r) => Err(r),
-    }
+    let n = in_room(judge_file(file), out.len())?;
+    lay_cards(out, file);
+    Ok(n)
 }

@@ -10,13 +10,6 @@ ghost use Rattle.media_ebcdic.specs.Translating.{ascii_from, ebcdic_from, transl
 use base_refusal::{Refusal, refuse};
 use tables::{ascii_of, ebcdic_of};
 
-// What came of a translation: the number of bytes written, or the refusal with nothing written.
-#[derive(Drop)]
-pub enum Translated {
-    Done(usize),
-    Refused(Refusal),
-}
-
 // The input translated byte by byte, an output that is too short left as it was.
 fn translate<F: Fn(u8) -> u8>(input: &[u8], out: &mut [u8], entry: F) -> Result<usize, Refusal>
     requires { F.IsAlwaysCallable entry }

@@ -1,7 +1,7 @@
 // Every answer as numbers, for programs in other languages: one number that says it, and three that go with it.
 ghost use Rattle.volume_check.specs.Lines.{line_place};
 ghost use Rattle.std.specs.Prelude.{◌≡◌, false};
-ghost use Rattle.p294.specs.answers.Replies.{plain, refused_reply, done_reply, mark, value_reply, field_reply, text_alone, entered_reply, opened_reply, count_reply, only_reply, ties_reply, key_reply, converted_reply, translated_reply, lines_reply, line_reply, volume_reply, routes_reply, heading_reply};
+ghost use Rattle.p294.specs.answers.Replies.{plain, refused_reply, done_reply, mark, value_reply, field_reply, text_alone, entered_reply, count_reply, only_reply, counted_reply, key_reply, line_reply, heading_reply};
 
 use base_digits::signs;
 use base_refusal::Refusal;
@@ -90,10 +90,7 @@ fn of_columns(c: Columns) -> Reply
 fn mark_of(misplaced: bool) -> i64
     ensures { result ≡ mark misplaced }
 {
-    if misplaced {
-        return 1;
-    }
-    0
+    i64::from(misplaced)
 }
 
 // A decimal.
@@ -135,6 +132,7 @@ fn of_value(v: Value, misplaced: bool) -> Reply
 }
 
 // The reading of a field.
+#[tactic(auto, unfolding(crate::specs::answers::Replies::field_reply))]
 pub fn of_field(read: Result<FieldRead, Refusal>) -> Reply
     ensures { result ≡ field_reply read }
 {
@@ -158,21 +156,12 @@ pub fn of_text(reply: Reply) -> Reply
     reply
 }
 
-// What came of an entry.
+// What came of an entry, or of opening a card.
+#[tactic(auto, unfolding(crate::specs::answers::Replies::entered_reply))]
 pub fn of_entered(entered: Result<(), Refusal>) -> Reply
     ensures { result ≡ entered_reply entered }
 {
     match entered {
-        Ok(()) => done(),
-        Err(r) => refused(r),
-    }
-}
-
-// What came of an opening.
-pub fn of_opened(opened: Result<(), Refusal>) -> Reply
-    ensures { result ≡ opened_reply opened }
-{
-    match opened {
         Ok(()) => done(),
         Err(r) => refused(r),
     }
@@ -202,11 +191,12 @@ fn only(card: usize, column: usize) -> Reply
     }
 }
 
-// What came of a check.
-pub fn of_ties(ties: Result<usize, Refusal>) -> Reply
-    ensures { result ≡ ties_reply ties }
+// So many, or why there are none.
+#[tactic(auto, unfolding(crate::specs::answers::Replies::counted_reply))]
+pub fn of_counted(number: Result<usize, Refusal>) -> Reply
+    ensures { result ≡ counted_reply number }
 {
-    match ties {
+    match number {
         Ok(n) => counted(n),
         Err(r) => refused(r),
     }
@@ -225,36 +215,6 @@ pub fn of_key(defined: Result<Defined, Refusal>) -> Reply
     }
 }
 
-// What came of a conversion.
-pub fn of_converted(converted: Result<usize, Refusal>) -> Reply
-    ensures { result ≡ converted_reply converted }
-{
-    match converted {
-        Ok(n) => counted(n),
-        Err(r) => refused(r),
-    }
-}
-
-// What came of a translation.
-pub fn of_translated(translated: Result<usize, Refusal>) -> Reply
-    ensures { result ≡ translated_reply translated }
-{
-    match translated {
-        Ok(n) => counted(n),
-        Err(r) => refused(r),
-    }
-}
-
-// How many lines a volume has.
-pub fn of_lines(lines: Result<usize, Refusal>) -> Reply
-    ensures { result ≡ lines_reply lines }
-{
-    match lines {
-        Ok(n) => counted(n),
-        Err(r) => refused(r),
-    }
-}
-
 // A line's cards.
 fn placed(start: usize, number: usize, entry: usize) -> Reply
     ensures { result ≡ line_reply (Ok (line_place start number entry)) }
@@ -268,6 +228,7 @@ fn placed(start: usize, number: usize, entry: usize) -> Reply
 }
 
 // Where a line of a volume stands.
+#[tactic(auto, unfolding(crate::specs::answers::Replies::line_reply))]
 pub fn of_line(found: Result<LinePlace, Refusal>) -> Reply
     ensures { result ≡ line_reply found }
 {
@@ -277,27 +238,8 @@ pub fn of_line(found: Result<LinePlace, Refusal>) -> Reply
     }
 }
 
-// What came of writing to a volume.
-pub fn of_volume(volume: Result<usize, Refusal>) -> Reply
-    ensures { result ≡ volume_reply volume }
-{
-    match volume {
-        Ok(n) => counted(n),
-        Err(r) => refused(r),
-    }
-}
-
-// What came of routes.
-pub fn of_routes(listed: Result<usize, Refusal>) -> Reply
-    ensures { result ≡ routes_reply listed }
-{
-    match listed {
-        Ok(n) => counted(n),
-        Err(r) => refused(r),
-    }
-}
-
 // What came of asking for a heading.
+#[tactic(auto, unfolding(crate::specs::answers::Replies::heading_reply))]
 pub fn of_heading(heading: Result<Decimal, Refusal>) -> Reply
     ensures { result ≡ heading_reply heading }
 {

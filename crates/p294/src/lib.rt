@@ -29,7 +29,7 @@ ghost use Rattle.survey_datums.specs.Listing.{listed_of, list_for as routes_in};
 ghost use Rattle.base_value.specs.Sums.{decimal};
 ghost use Rattle.survey_compass.specs.Headings.{heading_of};
 ghost use Rattle.p294.specs.offered.Offers.{offered_of, key_of, key_text_of};
-ghost use Rattle.p294.specs.answers.Replies.{field_reply, text_reply, entered_reply, opened_reply, ties_reply, key_reply, converted_reply, translated_reply, lines_reply, line_reply, volume_reply, routes_reply, heading_reply};
+ghost use Rattle.p294.specs.answers.Replies.{field_reply, text_reply, entered_reply, counted_reply, key_reply, line_reply, heading_reply};
 ghost use Rattle.p294.specs.Given.{given};
 
 use crate::answers::Reply;
@@ -99,12 +99,12 @@ pub extern "C" fn p294_read_text(
 // A new card of a code.
 #[unsafe(no_mangle)]
 pub extern "C" fn p294_open(card: &mut [u8], code: &[u8], numbers: &mut [i64]) -> i64
-    ensures said { result ≡ (opened_reply (opened_of code.now (length card.old))).said }
+    ensures said { result ≡ (entered_reply (opened_of code.now (length card.old))).said }
     ensures numbers { numbers.new
-        ≡ given numbers.old (opened_reply (opened_of code.now (length card.old))) }
+        ≡ given numbers.old (entered_reply (opened_of code.now (length card.old))) }
     ensures card { card.new ≡ opened_card code.now card.old }
 {
-    let reply = answers::of_opened(opening::open(card, code));
+    let reply = answers::of_entered(opening::open(card, code));
     give(numbers, reply)
 }
 
@@ -156,13 +156,13 @@ pub extern "C" fn p294_put_text(
 #[unsafe(no_mangle)]
 pub extern "C" fn p294_check(header: &[u8], list: &mut [u32], numbers: &mut [i64]) -> i64
     ensures said { result
-        ≡ (ties_reply (answer_for (refusal_of header.now) (length (faults header.now)))).said }
+        ≡ (counted_reply (answer_for (refusal_of header.now) (length (faults header.now)))).said }
     ensures numbers { numbers.new
-        ≡ given numbers.old (ties_reply (answer_for (refusal_of header.now) (length (faults header.now)))) }
+        ≡ given numbers.old (counted_reply (answer_for (refusal_of header.now) (length (faults header.now)))) }
     ensures list { list.new
         ≡ list_for (refusal_of header.now) list.old (entries header.now) }
 {
-    let reply = answers::of_ties(tie_check::check(header, list));
+    let reply = answers::of_counted(tie_check::check(header, list));
     give(numbers, reply)
 }
 
@@ -191,26 +191,26 @@ pub extern "C" fn p294_key(
 // A header as a diskette file, in the lent output.
 #[unsafe(no_mangle)]
 pub extern "C" fn p294_to_disk(header: &[u8], out: &mut [u8], numbers: &mut [i64]) -> i64
-    ensures said { result ≡ (converted_reply (to_answer header.now (length out.old))).said }
+    ensures said { result ≡ (counted_reply (to_answer header.now (length out.old))).said }
     ensures numbers { numbers.new
-        ≡ given numbers.old (converted_reply (to_answer header.now (length out.old))) }
+        ≡ given numbers.old (counted_reply (to_answer header.now (length out.old))) }
     ensures out { out.new
         ≡ output_by (to_answer header.now (length out.old)) (disk_of header.now) out.old }
 {
-    let reply = answers::of_converted(media_diskette::to_diskette(header, out));
+    let reply = answers::of_counted(media_diskette::to_diskette(header, out));
     give(numbers, reply)
 }
 
 // A diskette file as a header, in the lent output.
 #[unsafe(no_mangle)]
 pub extern "C" fn p294_from_disk(file: &[u8], out: &mut [u8], numbers: &mut [i64]) -> i64
-    ensures said { result ≡ (converted_reply (from_answer file.now (length out.old))).said }
+    ensures said { result ≡ (counted_reply (from_answer file.now (length out.old))).said }
     ensures numbers { numbers.new
-        ≡ given numbers.old (converted_reply (from_answer file.now (length out.old))) }
+        ≡ given numbers.old (counted_reply (from_answer file.now (length out.old))) }
     ensures out { out.new
         ≡ output_by (from_answer file.now (length out.old)) (cards_from file.now) out.old }
 {
-    let reply = answers::of_converted(media_diskette::from_diskette(file, out));
+    let reply = answers::of_counted(media_diskette::from_diskette(file, out));
     give(numbers, reply)
 }
 
@@ -218,12 +218,12 @@ pub extern "C" fn p294_from_disk(file: &[u8], out: &mut [u8], numbers: &mut [i64
 #[unsafe(no_mangle)]
 pub extern "C" fn p294_from_ebcdic(tape: &[u8], out: &mut [u8], numbers: &mut [i64]) -> i64
     ensures said { result
-        ≡ (translated_reply (translated_for (length tape.now) (length out.old))).said }
+        ≡ (counted_reply (translated_for (length tape.now) (length out.old))).said }
     ensures numbers { numbers.new
-        ≡ given numbers.old (translated_reply (translated_for (length tape.now) (length out.old))) }
+        ≡ given numbers.old (counted_reply (translated_for (length tape.now) (length out.old))) }
     ensures out { out.new ≡ stored out.old 0 (ascii_from tape.now) }
 {
-    let reply = answers::of_translated(media_ebcdic::to_ascii(tape, out));
+    let reply = answers::of_counted(media_ebcdic::to_ascii(tape, out));
     give(numbers, reply)
 }
 
@@ -231,36 +231,36 @@ pub extern "C" fn p294_from_ebcdic(tape: &[u8], out: &mut [u8], numbers: &mut [i
 #[unsafe(no_mangle)]
 pub extern "C" fn p294_to_ebcdic(text: &[u8], out: &mut [u8], numbers: &mut [i64]) -> i64
     ensures said { result
-        ≡ (translated_reply (translated_for (length text.now) (length out.old))).said }
+        ≡ (counted_reply (translated_for (length text.now) (length out.old))).said }
     ensures numbers { numbers.new
-        ≡ given numbers.old (translated_reply (translated_for (length text.now) (length out.old))) }
+        ≡ given numbers.old (counted_reply (translated_for (length text.now) (length out.old))) }
     ensures out { out.new ≡ stored out.old 0 (ebcdic_from text.now) }
 {
-    let reply = answers::of_translated(media_ebcdic::to_ebcdic(text, out));
+    let reply = answers::of_counted(media_ebcdic::to_ebcdic(text, out));
     give(numbers, reply)
 }
 
 // The empty volume, laid into a buffer.
 #[unsafe(no_mangle)]
 pub extern "C" fn p294_volume_empty(buffer: &mut [u8], numbers: &mut [i64]) -> i64
-    ensures said { result ≡ (volume_reply (empty_answer buffer.old)).said }
-    ensures numbers { numbers.new ≡ given numbers.old (volume_reply (empty_answer buffer.old)) }
+    ensures said { result ≡ (counted_reply (empty_answer buffer.old)).said }
+    ensures numbers { numbers.new ≡ given numbers.old (counted_reply (empty_answer buffer.old)) }
     ensures buffer { buffer.new ≡ volume_left (row_of Old) (empty_answer buffer.old) [] buffer.old }
 {
-    let reply = answers::of_volume(volume_edit::lay_empty(buffer));
+    let reply = answers::of_counted(volume_edit::lay_empty(buffer));
     give(numbers, reply)
 }
 
 // How many lines a volume has.
 #[unsafe(no_mangle)]
 pub extern "C" fn p294_volume_lines(volume: &[u8], cards: usize, numbers: &mut [i64]) -> i64
-    ensures said { result ≡ (lines_reply (lines_of (row_of (form_in cards volume.now)) cards volume.now)).said }
+    ensures said { result ≡ (counted_reply (lines_of (row_of (form_in cards volume.now)) cards volume.now)).said }
     ensures numbers { numbers.new
-        ≡ given numbers.old (lines_reply (lines_of (row_of (form_in cards volume.now)) cards volume.now)) }
+        ≡ given numbers.old (counted_reply (lines_of (row_of (form_in cards volume.now)) cards volume.now)) }
 {
     give(
         numbers,
-        answers::of_lines(volume_check::lines(volume, cards)),
+        answers::of_counted(volume_check::lines(volume, cards)),
     )
 }
 
@@ -290,26 +290,26 @@ pub extern "C" fn p294_volume_append(
     header: &[u8],
     numbers: &mut [i64],
 ) -> i64
-    ensures said { result ≡ (volume_reply (append_answer (row_of (form_in cards buffer.old)) cards buffer.old header.now)).said }
+    ensures said { result ≡ (counted_reply (append_answer (row_of (form_in cards buffer.old)) cards buffer.old header.now)).said }
     ensures numbers { numbers.new
-        ≡ given numbers.old (volume_reply (append_answer (row_of (form_in cards buffer.old)) cards buffer.old header.now)) }
+        ≡ given numbers.old (counted_reply (append_answer (row_of (form_in cards buffer.old)) cards buffer.old header.now)) }
     ensures buffer { buffer.new
         ≡ volume_left (row_of (form_in cards buffer.old)) (append_answer (row_of (form_in cards buffer.old)) cards buffer.old header.now)
         (headers_of (row_of (form_in cards buffer.old)) cards (take (80 * cards) buffer.old) ++ (header.now ∷ [])) buffer.old }
 {
-    let reply = answers::of_volume(volume_edit::append(buffer, cards, header));
+    let reply = answers::of_counted(volume_edit::append(buffer, cards, header));
     give(numbers, reply)
 }
 
 // The routes of a header's datums to datum 1, nine numbers to a datum in the list as far as they fit; or the refusal.
 #[unsafe(no_mangle)]
 pub extern "C" fn p294_routes(header: &[u8], list: &mut [u32], numbers: &mut [i64]) -> i64
-    ensures said { result ≡ (routes_reply (listed_of (routes_of header.now))).said }
+    ensures said { result ≡ (counted_reply (listed_of (routes_of header.now))).said }
     ensures numbers { numbers.new
-        ≡ given numbers.old (routes_reply (listed_of (routes_of header.now))) }
+        ≡ given numbers.old (counted_reply (listed_of (routes_of header.now))) }
     ensures list { list.new ≡ routes_in (routes_of header.now) list.old }
 {
-    let reply = answers::of_routes(survey_datums::listing::list_routes(header, list));
+    let reply = answers::of_counted(survey_datums::listing::list_routes(header, list));
     give(numbers, reply)
 }
 
@@ -340,38 +340,38 @@ pub extern "C" fn p294_heading(
 // A volume brought into the wide form.
 #[unsafe(no_mangle)]
 pub extern "C" fn p294_volume_widen(buffer: &mut [u8], cards: usize, numbers: &mut [i64]) -> i64
-    ensures said { result ≡ (volume_reply (convert_answer (row_of (form_in cards buffer.old)) (row_of Wide) cards buffer.old)).said }
-    ensures numbers { numbers.new ≡ given numbers.old (volume_reply (convert_answer (row_of (form_in cards buffer.old)) (row_of Wide) cards buffer.old)) }
+    ensures said { result ≡ (counted_reply (convert_answer (row_of (form_in cards buffer.old)) (row_of Wide) cards buffer.old)).said }
+    ensures numbers { numbers.new ≡ given numbers.old (counted_reply (convert_answer (row_of (form_in cards buffer.old)) (row_of Wide) cards buffer.old)) }
     ensures buffer { buffer.new
         ≡ volume_left (row_of Wide) (convert_answer (row_of (form_in cards buffer.old)) (row_of Wide) cards buffer.old)
         (headers_of (row_of (form_in cards buffer.old)) cards (take (80 * cards) buffer.old)) buffer.old }
 {
-    let reply = answers::of_volume(volume_edit::convert::widen(buffer, cards));
+    let reply = answers::of_counted(volume_edit::convert::widen(buffer, cards));
     give(numbers, reply)
 }
 
 // A volume brought into the old form.
 #[unsafe(no_mangle)]
 pub extern "C" fn p294_volume_narrow(buffer: &mut [u8], cards: usize, numbers: &mut [i64]) -> i64
-    ensures said { result ≡ (volume_reply (convert_answer (row_of (form_in cards buffer.old)) (row_of Old) cards buffer.old)).said }
-    ensures numbers { numbers.new ≡ given numbers.old (volume_reply (convert_answer (row_of (form_in cards buffer.old)) (row_of Old) cards buffer.old)) }
+    ensures said { result ≡ (counted_reply (convert_answer (row_of (form_in cards buffer.old)) (row_of Old) cards buffer.old)).said }
+    ensures numbers { numbers.new ≡ given numbers.old (counted_reply (convert_answer (row_of (form_in cards buffer.old)) (row_of Old) cards buffer.old)) }
     ensures buffer { buffer.new
         ≡ volume_left (row_of Old) (convert_answer (row_of (form_in cards buffer.old)) (row_of Old) cards buffer.old)
         (headers_of (row_of (form_in cards buffer.old)) cards (take (80 * cards) buffer.old)) buffer.old }
 {
-    let reply = answers::of_volume(volume_edit::convert::narrow(buffer, cards));
+    let reply = answers::of_counted(volume_edit::convert::narrow(buffer, cards));
     give(numbers, reply)
 }
 
 // A volume without the lines that are superseded.
 #[unsafe(no_mangle)]
 pub extern "C" fn p294_volume_compact(buffer: &mut [u8], cards: usize, numbers: &mut [i64]) -> i64
-    ensures said { result ≡ (volume_reply (compact_answer (row_of (form_in cards buffer.old)) cards buffer.old)).said }
-    ensures numbers { numbers.new ≡ given numbers.old (volume_reply (compact_answer (row_of (form_in cards buffer.old)) cards buffer.old)) }
+    ensures said { result ≡ (counted_reply (compact_answer (row_of (form_in cards buffer.old)) cards buffer.old)).said }
+    ensures numbers { numbers.new ≡ given numbers.old (counted_reply (compact_answer (row_of (form_in cards buffer.old)) cards buffer.old)) }
     ensures buffer { buffer.new
         ≡ compacted_by (row_of (form_in cards buffer.old)) (compact_answer (row_of (form_in cards buffer.old)) cards buffer.old)
         (headers_of (row_of (form_in cards buffer.old)) cards (take (80 * cards) buffer.old)) buffer.old }
 {
-    let reply = answers::of_volume(volume_edit::compact::compact(buffer, cards));
+    let reply = answers::of_counted(volume_edit::compact::compact(buffer, cards));
     give(numbers, reply)
 }

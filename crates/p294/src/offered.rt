@@ -6,9 +6,6 @@ use base_digits::signs;
 use base_value::{Columns, Date, Decimal, Value};
 use tie_lookup::questions::Key;
 
-// The first number that 32 bits do not hold.
-const TOO_LARGE: u64 = 4294967296;
-
 // The kinds of key.
 const KEY_WHOLE: usize = 1;
 
@@ -17,13 +14,11 @@ const KEY_PAIR: usize = 2;
 const KEY_TEXT: usize = 3;
 
 // A part of a date.
+#[tactic(auto, unfolding(crate::specs::offered::Offers::part_of))]
 fn part_of(n: u64) -> u32
     ensures { result ≡ part_of n }
 {
-    if n < TOO_LARGE {
-        return n as u32;
-    }
-    0
+    u32::try_from(n).unwrap_or(0)
 }
 
 // A year.
@@ -37,45 +32,37 @@ fn year_of(z: i64) -> u32
 }
 
 // The value that a kind and three numbers offer.
+#[tactic(auto, unfolding(crate::specs::offered::Offers::offered_of))]
 pub fn offered(kind: usize, a: i64, b: usize, c: usize) -> Value
     ensures { result ≡ offered_of kind a b c }
 {
-    if kind == 0 {
-        return Value::Absent;
-    }
-    if kind == 1 {
-        return Value::Whole(a);
-    }
-    if kind == 2 {
-        return Value::Decimal(Decimal {
+    match kind {
+        0 => Value::Absent,
+        1 => Value::Whole(a),
+        2 => Value::Decimal(Decimal {
             units: a,
             places: b,
-        });
-    }
-    if kind == 3 {
-        return Value::Angle(a);
-    }
-    if kind == 4 {
-        return Value::Date(Date {
+        }),
+        3 => Value::Angle(a),
+        4 => Value::Date(Date {
             year: year_of(a),
             month: part_of(b as u64),
             day: part_of(c as u64),
-        });
+        }),
+        _ => Value::Text(Columns { first: 0, last: 0 }),
     }
-    Value::Text(Columns { first: 0, last: 0 })
 }
 
 // The key that a kind and two numbers offer.
+#[tactic(auto, unfolding(crate::specs::offered::Offers::key_of))]
 pub fn key_of(kind: usize, a: i64, b: i64) -> Key
     ensures { result ≡ key_of kind a b }
 {
-    if kind == KEY_WHOLE {
-        return Key::Whole(a);
+    match kind {
+        KEY_WHOLE => Key::Whole(a),
+        KEY_PAIR => Key::Pair(a, b),
+        _ => Key::Text,
     }
-    if kind == KEY_PAIR {
-        return Key::Pair(a, b);
-    }
-    Key::Text
 }
 
 // The text of a key: none where its kind is another.

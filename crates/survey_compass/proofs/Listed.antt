@@ -7,7 +7,6 @@ use mathlib.Core.List.{List, [], ◌∷◌}
 use lib.Dec.{eqb}
 use lib.ListN.{length, take, drop, length-drop}
 use lib.Seq.{length-take-le}
-use Rattle.std.specs.Str.{bytes_eq}
 use borrow.Author.Tests.{eq-eqb, ne_eqb}
 use Rattle.base_lists.specs.Parts.{alike}
 use Rattle.value_text.specs.text.Texts.{text_of}
@@ -16,14 +15,6 @@ use Rattle.tie_rules.specs.Keys.{between}
 use Rattle.tie_rules.specs.packed.Rows.{marked}
 use Rattle.survey_compass.specs.Serials.{is_for}
 use Rattle.survey_compass.specs.Directions.{mark_of}
-
--- `==` on two texts compares as `alike` does
-pub alike_is : (s t : List ℕ) → bytes_eq s t ≡ alike s t
-unfolding alike
-alike_is [] [] = refl
-alike_is [] (y ∷ t) = refl
-alike_is (x ∷ s) [] = refl
-alike_is (x ∷ s) (y ∷ t) = rw (alike_is s t)
 
 -- a card is for a serial
 module _ (serial s : List ℕ) (k : ℕ) (is : k ≡ layout_of s) where

@@ -20,13 +20,6 @@ use std::array;
 // As a number of shifts: the datum is not defined.
 pub const UNDEFINED: u8 = 10;
 
-// Whether the routes are told, or the refusal.
-#[derive(Clone, Copy)]
-pub enum Answer {
-    Told,
-    Refused(Refusal),
-}
-
 // Of each datum from 1 on the number of shifts (9: no route, 10: not defined), and eight cards, 0 behind the last of
 // its route.
 #[derive(Clone, Copy)]

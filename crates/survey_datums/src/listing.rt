@@ -60,14 +60,7 @@ pub fn list_routes(header: &[u8], list: &mut [u32]) -> Result<usize, Refusal>
     ensures list { list.new ≡ list_for (routes_of header.now) list.old }
 {
     let routes = crate::find_routes(header);
-    let shifts = routes.shifts;
-    let cards = routes.cards;
-    let answer = routes.answer;
-    match answer {
-        Ok(()) => {
-            lay(list, shifts, cards);
-            Ok(count_routed(shifts))
-        }
-        Err(refusal) => Err(refusal),
-    }
+    routes.answer?;
+    lay(list, routes.shifts, routes.cards);
+    Ok(count_routed(routes.shifts))
 }

@@ -1,5 +1,4 @@
-// The answers, written as they come. Not collected in a page: a function that is lent one and hands on its end takes the
-// prover four times as long.
+// The answers, written as they come.
 
 use base_refusal::Refusal;
 use std::fmt::Display;

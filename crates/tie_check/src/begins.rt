@@ -32,10 +32,7 @@ fn left_at(card: &[u8], layout: usize, i: usize) -> bool
         return false;
     }
     let row = format_layout::row_of(layout, i);
-    if row == 0 {
-        return false;
-    }
-    judging::is_misplaced(card, row, Form::Angles)
+    row != 0 && judging::is_misplaced(card, row, Form::Angles)
 }
 
 // Whether a card has a misplaced number, field by field.
@@ -43,7 +40,7 @@ fn some_left(card: &[u8], layout: usize) -> bool
     requires { length card.now ≡ 80 }
     ensures { result ≡ any_left card.now (fields_of layout) }
 {
-    // No layout has more fields than a card has columns.
+    // A loop: only a row before the first 0 may be asked. No layout has more fields than a card has columns.
     for number in 0..CARD {
         let row = format_layout::row_of(layout, number + 1);
         if row == 0 {
@@ -61,10 +58,7 @@ pub fn any_left(card: &[u8], layout: usize, sure: bool) -> bool
     requires { (length card.now ≡ 80) × (sure ≡ is_sure_of layout card.now) }
     ensures { result ≡ any_left card.now (fields_of layout) }
 {
-    if sure {
-        return false;
-    }
-    some_left(card, layout)
+    !sure && some_left(card, layout)
 }
 
 // The row of a column in the table of ties: the column alone where it carries none.
@@ -72,13 +66,10 @@ fn row_for(layout: usize, column: usize) -> u64
     requires { column ≤ 80 }
     ensures { result ≡ row_at layout column }
 {
-    for slot in 0..SLOTS {
-        let row = tie_rules::tie_of(layout, slot + 1);
-        if keys::column_of(row) == column {
-            return row;
-        }
-    }
-    column as u64
+    (0..SLOTS)
+        .map(|slot| tie_rules::tie_of(layout, slot + 1))
+        .find(|row| keys::column_of(*row) == column)
+        .unwrap_or(column as u64)
 }
 
 // The row of a step of the walk over a card, by its number from 0: over all these columns if the card has a misplaced number, and
@@ -99,8 +90,5 @@ pub fn step_left(left: bool, card: &[u8], layout: usize, i: usize) -> bool
     requires left_value { left ≡ any_left card.now (fields_of layout) }
     ensures { result ≡ misplaced_among (fields_of layout) card.now (get_or (walked left layout) i 0) }
 {
-    if left {
-        return left_at(card, layout, i);
-    }
-    false
+    left && left_at(card, layout, i)
 }

@@ -8,6 +8,19 @@ ghost use Rattle.tie_check.specs.packed.Stored.{stored_all, entries_for};
 // How many numbers an entry has: card, column, kind, vessel.
 pub const ENTRY: usize = 4;
 
+// The kinds of fault, by their numbers in an entry.
+pub const UNDEFINED: u32 = 1;
+
+pub const REDEFINED: u32 = 2;
+
+pub const AMBIGUOUS: u32 = 3;
+
+pub const CONTRADICTED: u32 = 4;
+
+pub const MISCOUNTED: u32 = 5;
+
+pub const MISPLACED: u32 = 6;
+
 // Which kinds of broken tie a column has.
 #[derive(Clone, Copy)]
 pub struct Broken {
@@ -16,6 +29,17 @@ pub struct Broken {
     pub ambiguous: bool,
     pub contradicted: bool,
     pub miscounted: bool,
+}
+
+impl Broken {
+    // No fault of any kind.
+    pub const NONE: Broken = Broken {
+        undefined: false,
+        redefined: false,
+        ambiguous: false,
+        contradicted: false,
+        miscounted: false,
+    };
 }
 
 // An entry, where it fits whole.
@@ -67,10 +91,26 @@ pub fn put_all(
     ensures number { result ≡ found + length (entries_for broken misplaced card column vessel) }
     ensures few { result ≤ found + kinds }
 {
-    let a = put_if(list, found, broken.undefined, card, column, 1, vessel);
-    let b = put_if(list, a, broken.redefined, card, column, 2, vessel);
-    let c = put_if(list, b, broken.ambiguous, card, column, 3, vessel);
-    let d = put_if(list, c, broken.contradicted, card, column, 4, vessel);
-    let e = put_if(list, d, broken.miscounted, card, column, 5, vessel);
-    put_if(list, e, misplaced, card, column, 6, vessel)
+    let a = put_if(
+        list,
+        found,
+        broken.undefined,
+        card,
+        column,
+        UNDEFINED,
+        vessel,
+    );
+    let b = put_if(list, a, broken.redefined, card, column, REDEFINED, vessel);
+    let c = put_if(list, b, broken.ambiguous, card, column, AMBIGUOUS, vessel);
+    let d = put_if(
+        list,
+        c,
+        broken.contradicted,
+        card,
+        column,
+        CONTRADICTED,
+        vessel,
+    );
+    let e = put_if(list, d, broken.miscounted, card, column, MISCOUNTED, vessel);
+    put_if(list, e, misplaced, card, column, MISPLACED, vessel)
 }

@@ -41,6 +41,7 @@ pub fn flag_shared(cards: &mut [u8; CARDS], keys: &[u64; ROOM], links: &[u16; LI
     requires linked { Linked keys.now links.now }
     ensures { cards.new ≡ flagged_to cards.old keys.now links.now (count_in links.now) }
 {
+    // By number: the store is asked for an entry by its number, in two arrays.
     for i in 0..tie_store::entries_in(links) {
         flag_entry(cards, keys, links, i);
     }

@@ -39,6 +39,7 @@ fn gather_card(
     ensures keys { keys.new ≡ (with_slots (store keys.old links.old) card.now tag 5).keys }
     ensures links { links.new ≡ (with_slots (store keys.old links.old) card.now tag 5).links }
 {
+    // A loop: it changes the store, and ends at the first slot without a row.
     for slot in 0..SLOTS {
         let row = tie_rules::tie_of(layout, slot + 1);
         if row == 0 {

@@ -4,7 +4,6 @@ ghost use Rattle.tie_rules.specs.Keys.{contradict};
 ghost use Rattle.tie_rules.specs.Faults.{differs};
 ghost use Rattle.tie_rules.specs.packed.Rows.{unmarked};
 ghost use Rattle.tie_store.specs.Store.{Linked};
-ghost use Rattle.tie_check.specs.packed.Kinds.{none_of};
 ghost use Rattle.tie_check.specs.packed.Asked.{contradicted_by, vessel_count, miscounted_by, broken_by, told_defined, faults_by};
 
 use crate::entries::Broken;
@@ -31,7 +30,7 @@ fn contradicts(card: &[u8], row: u64, vessel: u16, tag: u16) -> bool
 {
     if keys::states_own(row) {
         let column = keys::column_of(row);
-        return keys::whole_in(card, column, column) != vessel as u64 + 1;
+        return keys::whole_in(card, column, column) != u64::from(vessel) + 1;
     }
     digits_differ(vessel, tags::vessel_in(tag))
 }
@@ -87,24 +86,11 @@ fn judge_column(
     let contradicted = contradicts(card, row, vessel, referred.tag);
     let miscounted = miscounts(card, row, totals);
     Broken {
-        undefined: (reference != 0) & (referred.times == 0),
+        undefined: reference != 0 && referred.times == 0,
         redefined: 1 < defined.times,
         ambiguous: 1 < referred.times,
         contradicted,
         miscounted,
-    }
-}
-
-// No fault of any kind.
-fn unbroken() -> Broken
-    ensures { result ≡ none_of }
-{
-    Broken {
-        undefined: false,
-        redefined: false,
-        ambiguous: false,
-        contradicted: false,
-        miscounted: false,
     }
 }
 
@@ -133,8 +119,8 @@ pub fn faults_by(
     requires { Linked keys.now links.now }
     ensures { result ≡ faults_by keys.now links.now totals once card.now vessel row }
 {
-    if once & keys::only_defines(row) {
-        return unbroken();
+    if once && keys::only_defines(row) {
+        return Broken::NONE;
     }
     let reference = keys::referred_by(card, row);
     let referred = tie_store::look_up(keys, links, reference);

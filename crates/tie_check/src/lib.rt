@@ -25,9 +25,6 @@ pub fn check(header: &[u8], list: &mut [u32]) -> Result<usize, Refusal>
         ≡ list_for (refusal_of header.now) list.old (entries header.now) }
 {
     let mut cards = [0u8; CARDS];
-    let checked = header_check::check_noting(header, &mut cards);
-    match checked {
-        Ok(()) => Ok(listing::list_faults(header, &mut cards, list)),
-        Err(refusal) => Err(refusal),
-    }
+    header_check::check_noting(header, &mut cards)?;
+    Ok(listing::list_faults(header, &mut cards, list))
 }

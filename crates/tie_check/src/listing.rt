@@ -89,6 +89,7 @@ fn list_cards(
     ensures number { result ≡ length (faults header.now) }
 {
     let mut found = 0;
+    // By their places: what a card breaks is told of a place in the whole header.
     for place in 0..header.len() / CARD {
         found = list_card(list, found, header, cards, store, links, totals, place);
     }

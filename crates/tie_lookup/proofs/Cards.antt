@@ -1,19 +1,11 @@
 -- A header card by card, as `chunks_exact` yields it.
-use Prim.Native.Nat.{ℕ, zero, suc, ◌+◌, ◌*◌, ◌/◌, ◌<◌}
-use native.Mathlib.Nat.{zero-add}
+use Prim.Native.Nat.{ℕ, zero, suc, ◌+◌, ◌*◌, ◌/◌}
 use native.Mathlib.Omega.{arith}
 use mathlib.Core.Path.{◌≡◌, refl, sym, ap, ◌∙◌}
 use mathlib.Core.List.{List, [], ◌∷◌, ◌++◌, map}
 use lib.ListN.{length, take, drop, length-append}
 use lib.Seq.{take_at, drop_at}
-use denote.Ref.{Bor}
-use Rattle.std.specs.Prelude.{Option, None, Some}
-use Rattle.std.specs.declared.iter.Enumerate.{Enumerate}
-use Rattle.std.specs.Iterator.{Yields}
-use Rattle.std.specs.Iterator.Adapters.{enumerate_source, enumerate_count, enumerate_steps}
-use Rattle.std.proofs.lemmas.Iterator.Consumers.{YieldsList-from_enumerate, YieldsList-turn, YieldsList-end}
-use Rattle.std.proofs.lemmas.List.FromFn.{length-enumerate_from, get_or-enumerate_from, length-map-range_with_len, get_or-map-range_with_len}
-use Rattle.std.specs.List.{range_with_len, enumerate_from}
+use Rattle.std.specs.List.{range_with_len}
 use Rattle.std.specs.Slice.Iter.{chunks_exact_rest, chunks_exact_size, chunks_exact_steps}
 use Rattle.std.specs.declared.slice.ChunksExact.{ChunksExact}
 use Rattle.std.proofs.lemmas.Iterator.{YieldsList}
@@ -60,32 +52,3 @@ YieldsList-from_cards {s} h e p =
     rw (← cards-from h (length h / 80) 0, ← e) (YieldsList-from_shown_while (chunks_exact_steps {A = ℕ}) (λ x. x.now) shown (λ s. chunks_exact_size s ≡ 80)
     (λ s t q k. let z : length (chunks_exact_rest s) / 80 ≡ 0 = omega (arith, q, k.1.0) in rw z)
     (λ s x t q k. (k.0 ∙ q, cards_off _ _ _ k.1.0 (k.1.1 ∙ q))) s p)
-
--- one turn, and the end, of a `for` over the cards with their numbers
-module _ (h : List ℕ) (s : Enumerate (ChunksExact ℕ)) (rest : chunks_exact_rest (enumerate_source s) ≡ h)
-    (size : chunks_exact_size (enumerate_source s) ≡ 80) (start : enumerate_count s ≡ 0)
-    (ys : List (ℕ × Bor (List ℕ))) (t : Enumerate (ChunksExact ℕ)) (so_far : Yields (enumerate_steps chunks_exact_steps) s ys t)
-    (r : Option (ℕ × Bor (List ℕ))) (u : Enumerate (ChunksExact ℕ)) (step : enumerate_steps chunks_exact_steps t r u) where
-  all : List (List ℕ)
-  all = map (card_at h) (range_with_len 0 (cards_in h))
-
-  numbered : YieldsList (enumerate_steps chunks_exact_steps) (λ (p : ℕ × Bor (List ℕ)). (p.0, p.1.now)) s (enumerate_from 0 all)
-  unfolding all
-  numbered = YieldsList-from_enumerate (YieldsList-from_cards h rest size) start
-
-  how_many : length (enumerate_from 0 all) ≡ cards_in h
-  unfolding all
-  how_many = length-enumerate_from 0 all ∙ length-map-range_with_len (card_at h) 0 (cards_in h)
-
-  pub turn : (x : ℕ × Bor (List ℕ)) → r ≡ Some x → (length ys < cards_in h) × (x.0 ≡ length ys) × (x.1.now ≡ card_at h (length ys))
-  unfolding all
-  turn x e =
-      let k = length ys in
-      let f = YieldsList-turn numbered ys t so_far r u x e step in
-      let m : k < cards_in h = omega (arith, f.0, how_many) in
-      let n : k < length all = omega (arith, m, length-map-range_with_len (card_at h) 0 (cards_in h)) in
-      let q = f.1 ∙ get_or-enumerate_from 0 all k (x.0, x.1.now) n in
-      (m, ap (λ p. p.0) q ∙ zero-add k, ap (λ p. p.1) q ∙ get_or-map-range_with_len (card_at h) 0 (cards_in h) k k x.1.now m (zero-add k))
-
-  pub at_end : r ≡ None → length ys ≡ cards_in h
-  at_end e = (YieldsList-end numbered ys t so_far r u e step).1 ∙ how_many

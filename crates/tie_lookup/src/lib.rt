@@ -28,11 +28,8 @@ pub struct Observation(pub i64);
 pub fn find_key(header: &[u8], class: u64, key: Key, text: &[u8]) -> Result<Defined, Refusal>
     ensures { result ≡ key_answer header.now class key text.now }
 {
-    let checked = header_check::check(header);
-    match checked {
-        Ok(()) => questions::answer(header, class, key, text),
-        Err(refusal) => Err(refusal),
-    }
+    header_check::check(header)?;
+    questions::answer(header, class, key, text)
 }
 
 // The same of a key that is one whole number; no text goes with it.

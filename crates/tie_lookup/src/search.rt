@@ -52,6 +52,7 @@ fn on_card(card: &[u8], number: u64) -> Found
 {
     let layout = forms::layout_of(card);
     let mut found = Found::NONE;
+    // A loop: `with` may be called only while the number stays small.
     for slot in 0..SLOTS {
         let row = tie_rules::tie_of(layout, slot + 1);
         let more = usize::from(bears_key(card, row, number));

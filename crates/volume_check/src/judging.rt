@@ -31,10 +31,7 @@ fn check_headers(form: Form, body: &[u8], directory: &[u8]) -> Result<(), Refusa
     for card in directory.chunks_exact(CARD) {
         let n = reading::count_on(form, card) as usize;
         let (header, behind) = rest.split_at(CARD * n);
-        let checked = check_header(form, header);
-        let Ok(()) = checked else {
-            return checked;
-        };
+        check_header(form, header)?;
         rest = behind;
     }
     Ok(())

@@ -38,11 +38,8 @@ pub fn lines(volume: &[u8], cards: usize) -> Result<usize, Refusal>
     ensures { result ≡ lines_of (row_of (form_in cards volume.now)) cards volume.now }
 {
     let form = judging::form_of(volume, cards);
-    let checked = judging::judge(form, volume, cards);
-    match checked {
-        Ok(()) => Ok(count_in(form, volume, cards)),
-        Err(r) => Err(r),
-    }
+    judging::judge(form, volume, cards)?;
+    Ok(count_in(form, volume, cards))
 }
 
 // The line that a directory, which begins at a card, tells at a place.
@@ -88,11 +85,8 @@ pub fn find_line(volume: &[u8], cards: usize, place: usize) -> Result<LinePlace,
     ensures { result ≡ found_of (row_of (form_in cards volume.now)) cards volume.now place }
 {
     let form = judging::form_of(volume, cards);
-    let checked = judging::judge(form, volume, cards);
-    match checked {
-        Ok(()) => line_in(form, volume, cards, place),
-        Err(r) => Err(r),
-    }
+    judging::judge(form, volume, cards)?;
+    line_in(form, volume, cards, place)
 }
 
 // Some cards, the first of them counted from 1.

@@ -9,9 +9,10 @@ ghost use Rattle.volume_rules.specs.Volume.{joined};
 ghost use Rattle.volume_rules.specs.Sound.{headers_of};
 ghost use Rattle.volume_rules.specs.Judged.{volume_answer, form_in};
 ghost use Rattle.volume_rules.specs.Latest.{latest, compacted};
-ghost use Rattle.volume_rules.specs.SameLine.{same_line, sort_of, size_of, same_number, same_on, superseded_on};
+ghost use Rattle.volume_rules.specs.SameLine.{same_line, same_number, same_on, superseded_on};
 ghost use Rattle.volume_rules.specs.Packed.{Packed};
 ghost use Rattle.volume_edit.specs.Written.{compact_answer, compacted_by};
+ghost use Rattle.volume_edit.specs.Sequences.{sequence_of};
 ghost use Rattle.volume_edit.specs.Parts.{Listed, LineFits, Closes, line_kept};
 
 use base_refusal::Refusal;
@@ -30,50 +31,28 @@ pub struct Kept {
     pub lines: usize,
 }
 
-// The sort of a sequence number: none, one from 0 up, one below zero, or what is no number.
-const NONE: usize = 0;
-
-const FROM_ZERO: usize = 1;
-
-const BELOW_ZERO: usize = 2;
-
-const ODD: usize = 3;
+// The sequence number of a line, as lines are told apart by it: what is no number is the same as any other that is none.
+#[derive(Clone, Copy, PartialEq, Eq)]
+enum Sequence {
+    Absent,
+    Number(i64),
+    Odd,
+}
 
 // Where the name and the sequence number end on a directory card.
 const FIRST_END: usize = 22;
 
 const SECOND_END: usize = 27;
 
-#[tactic(auto, unfolding(volume_rules::specs::SameLine::sort_of))]
-fn sign_of(z: i64) -> usize
-    ensures { result ≡ sort_of (Ok (Value.Whole z)) }
-{
-    if z < 0 {
-        return BELOW_ZERO;
-    }
-    FROM_ZERO
-}
-
-// What sort of sequence number was read.
-#[tactic(auto, unfolding(volume_rules::specs::SameLine::sort_of))]
-fn sort_of(read: Result<Value, Unread>) -> usize
-    ensures { result ≡ sort_of read }
+// The sequence number that was read.
+#[tactic(auto, unfolding(crate::specs::Sequences::sequence_of))]
+fn sequence_of(read: Result<Value, Unread>) -> Sequence
+    ensures { result ≡ sequence_of read }
 {
     match read {
-        Ok(Value::Absent) => NONE,
-        Ok(Value::Whole(z)) => sign_of(z),
-        _ => ODD,
-    }
-}
-
-// Its size without the sign, 0 where there is none.
-#[tactic(auto, unfolding(volume_rules::specs::SameLine::size_of))]
-fn size_of(read: Result<Value, Unread>) -> u64
-    ensures { result ≡ size_of read }
-{
-    match read {
-        Ok(Value::Whole(z)) => z.unsigned_abs(),
-        _ => 0,
+        Ok(Value::Absent) => Sequence::Absent,
+        Ok(Value::Whole(z)) => Sequence::Number(z),
+        _ => Sequence::Odd,
     }
 }
 
@@ -81,9 +60,9 @@ fn size_of(read: Result<Value, Unread>) -> u64
 fn same_number(columns: &[u8], others: &[u8]) -> bool
     ensures { result ≡ same_number columns.now others.now }
 {
-    let one = spelling::read(columns, Spelling::Whole);
-    let other = spelling::read(others, Spelling::Whole);
-    sort_of(one) == sort_of(other) && size_of(one) == size_of(other)
+    let one = sequence_of(spelling::read(columns, Spelling::Whole));
+    let other = sequence_of(spelling::read(others, Spelling::Whole));
+    one == other
 }
 
 // Whether two directory cards are of the same line.
@@ -126,6 +105,7 @@ fn pack(buffer: &mut [u8], form: Form, body: usize, count: usize) -> Kept
     let mut at = 0;
     let mut cards = 0;
     let mut lines = 0;
+    // By number: a turn moves cards that others read, so no iterator can hold the buffer.
     for i in 0..count {
         let here = CARD * (body + i);
         let next = here + CARD;
@@ -179,11 +159,8 @@ fn compact_in(form: Form, buffer: &mut [u8], cards: usize) -> Result<usize, Refu
         ≡ compacted_by (row_of form) (compact_answer (row_of form) cards buffer.old)
         (headers_of (row_of form) cards (take (80 * cards) buffer.old)) buffer.old }
 {
-    let checked = judging::judge(form, &buffer[..], cards);
-    match checked {
-        Ok(()) => Ok(write(form, buffer, cards)),
-        Err(r) => Err(r),
-    }
+    judging::judge(form, &buffer[..], cards)?;
+    Ok(write(form, buffer, cards))
 }
 
 // Compacts a volume: of headers of the same line only the last is kept.

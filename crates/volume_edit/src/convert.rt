@@ -41,6 +41,7 @@ fn convert_directory(buffer: &mut [u8], from: Form, to: Form, body: usize, count
         ++ drop (80 * (body + count)) buffer.old) }
 {
     let mut at = 0;
+    // By number: a turn writes one card and reads cards far from it, so no iterator can hold the buffer.
     for i in 0..count {
         at += convert_card(buffer, from, to, at, body + i);
     }
@@ -81,11 +82,8 @@ fn judge_form(from: Form, to: Form, volume: &[u8], cards: usize) -> Result<(), R
 fn judge_convert(from: Form, to: Form, volume: &[u8], cards: usize) -> Result<(), Refusal>
     ensures { result ≡ convert_checked (row_of from) (row_of to) cards volume.now }
 {
-    let checked = judging::judge(from, volume, cards);
-    match checked {
-        Ok(()) => judge_form(from, to, volume, cards),
-        Err(r) => Err(r),
-    }
+    judging::judge(from, volume, cards)?;
+    judge_form(from, to, volume, cards)
 }
 
 // Writes the directory and the trailer of a volume that another form holds, and answers the number of its cards.
@@ -110,11 +108,8 @@ fn convert_to(from: Form, to: Form, buffer: &mut [u8], cards: usize) -> Result<u
         ≡ left_by (row_of to) (convert_answer (row_of from) (row_of to) cards buffer.old)
         (headers_of (row_of from) cards (take (80 * cards) buffer.old)) buffer.old }
 {
-    let checked = judge_convert(from, to, &buffer[..], cards);
-    match checked {
-        Ok(()) => Ok(write(from, to, buffer, cards)),
-        Err(r) => Err(r),
-    }
+    judge_convert(from, to, &buffer[..], cards)?;
+    Ok(write(from, to, buffer, cards))
 }
 
 // Brings a volume into the wide form.

@@ -71,10 +71,7 @@ fn judge_header(form: Form, cards: usize, room: usize, header: &[u8]) -> Result<
     requires { cards ≤ 1000000 }
     ensures { result ≡ room_answer (row_of form) cards room header.now }
 {
-    let checked = judging::check_header(form, header);
-    let Ok(()) = checked else {
-        return checked;
-    };
+    judging::check_header(form, header)?;
     if judging::is_stated(form, cards + header.len() / CARD + 1, room) {
         return Ok(());
     }
@@ -85,11 +82,8 @@ fn judge_header(form: Form, cards: usize, room: usize, header: &[u8]) -> Result<
 fn judge_append(form: Form, buffer: &[u8], cards: usize, header: &[u8]) -> Result<(), Refusal>
     ensures { result ≡ append_checked (row_of form) cards buffer.now header.now }
 {
-    let checked = judging::judge(form, buffer, cards);
-    match checked {
-        Ok(()) => judge_header(form, cards, buffer.len() / CARD, header),
-        Err(r) => Err(r),
-    }
+    judging::judge(form, buffer, cards)?;
+    judge_header(form, cards, buffer.len() / CARD, header)
 }
 
 // Appends a header that may be, and answers the new number of cards.
@@ -112,11 +106,8 @@ fn append_to(form: Form, buffer: &mut [u8], cards: usize, header: &[u8]) -> Resu
         ≡ left_by (row_of form) (append_answer (row_of form) cards buffer.old header.now)
         (headers_of (row_of form) cards (take (80 * cards) buffer.old) ++ (header.now ∷ [])) buffer.old }
 {
-    let checked = judge_append(form, &buffer[..], cards, header);
-    match checked {
-        Ok(()) => Ok(write(form, buffer, cards, header)),
-        Err(r) => Err(r),
-    }
+    judge_append(form, &buffer[..], cards, header)?;
+    Ok(write(form, buffer, cards, header))
 }
 
 // Appends a header to a volume.

@@ -1,13 +1,13 @@
 -- `p294::p294_volume_widen` meets its contract.
 use mathlib.Core.Path.{ap, ◌∙◌}
 use Rattle.p294.proofs.Giving.{answered}
-use Rattle.p294.specs.answers.Replies.{volume_reply}
+use Rattle.p294.specs.answers.Replies.{counted_reply}
 use borrow.Author.Rules.{rules}
 use Rattle.p294.proofs.p294_volume_widen.Goals as goal
 
 pub returns : goal.returns
 returns c =
-    let said = answered c.args.numbers.now _ c.of_volume-reply.result _ _ (search rules) c.give.ensures.said c.give.ensures.numbers (c.of_volume-reply.ensures ∙ ap volume_reply c.widen.ensures.answer) in record {
+    let said = answered c.args.numbers.now _ c.of_counted-reply.result _ _ (search rules) c.give.ensures.said c.give.ensures.numbers (c.of_counted-reply.ensures ∙ ap counted_reply c.widen.ensures.answer) in record {
       said = said.0;
       numbers = said.1;
       buffer = c.widen.ensures.buffer;

@@ -69,15 +69,10 @@ says_other (negsuc n) = false
 unfoldable pub text_alone : Reply → Reply
 text_alone r = cond (says_other r.said) done_reply r
 
--- an entry: 0, or its refusal
+-- an entry or an opening: 0, or its refusal
 unfoldable pub entered_reply : Result ⊤ Refusal → Reply
 entered_reply (Ok _) = done_reply
 entered_reply (Err r) = refused_reply r
-
--- an opening: 0, or its refusal
-unfoldable pub opened_reply : Result ⊤ Refusal → Reply
-opened_reply (Ok _) = done_reply
-opened_reply (Err r) = refused_reply r
 
 -- so many
 unfoldable pub count_reply : ℕ → Reply
@@ -87,10 +82,11 @@ count_reply n = reply (plain n) (pos 0) (pos 0) (pos 0)
 unfoldable pub only_reply : ℕ → ℕ → Reply
 only_reply card column = reply (pos 1) (plain card) (plain column) (pos 0)
 
--- a check: the number of all faults, or the header's refusal
-unfoldable pub ties_reply : Result ℕ Refusal → Reply
-ties_reply (Ok n) = count_reply n
-ties_reply (Err r) = refused_reply r
+-- how many, or the refusal: a check its faults, a conversion or a translation its bytes, a volume its lines or its cards, routes the
+-- datums that have one
+unfoldable pub counted_reply : Result ℕ Refusal → Reply
+counted_reply (Ok n) = count_reply n
+counted_reply (Err r) = refused_reply r
 
 -- a key: the number of its definitions, with the place of the only one; or the refusal
 unfoldable pub key_reply : Result Defined Refusal → Reply
@@ -99,35 +95,10 @@ key_reply (Ok (defined.Only card column)) = only_reply card column
 key_reply (Ok (defined.Several n)) = count_reply n
 key_reply (Err r) = refused_reply r
 
--- a conversion: the length written, or its refusal
-unfoldable pub converted_reply : Result ℕ Refusal → Reply
-converted_reply (Ok n) = count_reply n
-converted_reply (Err r) = refused_reply r
-
--- a translation: the number of bytes written, or its refusal
-unfoldable pub translated_reply : Result ℕ Refusal → Reply
-translated_reply (Ok n) = count_reply n
-translated_reply (Err r) = refused_reply r
-
--- a volume's lines: how many, or its refusal
-unfoldable pub lines_reply : Result ℕ Refusal → Reply
-lines_reply (Ok n) = count_reply n
-lines_reply (Err r) = refused_reply r
-
 -- a line of a volume: how many cards it has, its first card, its directory card; or the refusal
 unfoldable pub line_reply : Result LinePlace Refusal → Reply
 line_reply (Ok l) = reply (plain l.cards) (plain l.first) (plain l.entry) (pos 0)
 line_reply (Err r) = refused_reply r
-
--- writing to a volume: how many cards it now has, or the refusal
-unfoldable pub volume_reply : Result ℕ Refusal → Reply
-volume_reply (Ok n) = count_reply n
-volume_reply (Err r) = refused_reply r
-
--- routes: the number of datums that have one, or the refusal
-unfoldable pub routes_reply : Result ℕ Refusal → Reply
-routes_reply (Ok n) = count_reply n
-routes_reply (Err r) = refused_reply r
 
 -- a heading: 2, its units and places, as a decimal that is read; or its refusal
 unfoldable pub heading_reply : Result Units Refusal → Reply

@@ -239,11 +239,6 @@ unfolding walked
 walked_end true k i e j l = begins_end k i e j l
 walked_end false k i e j l = none-behind k i e j l
 
-pub walked-few : (left : Bool) (k : ℕ) → length (walked left k) ≤ 81
-unfolding walked
-walked-few true k = begins-few k
-walked-few false k = omega (arith, at_most_five k)
-
 -- the same by a number that is another than 0
 module _ (k i r : ℕ) (some : i ≡ 0 → ⊥) (is : r ≡ row_of k i) where
   back : i - 1 + 1 ≡ i

@@ -1,35 +1,28 @@
 -- `tie_check::check` meets its contract.
 use mathlib.Core.Path.{refl, sym, ap, ◌∙◌}
+use Rattle.std.specs.Prelude.{Ok, Err}
+use Rattle.std.proofs.lemmas.Result.{err_from_is_err_and}
 use Rattle.header_check.proofs.Lengths.{accepted-noted}
 use Rattle.tie_check.specs.Answer.{answer_for, list_for}
 use Rattle.tie_check.proofs.check.Goals as goal
-use Rattle.std.specs.Prelude.{Ok}
 
-pub check_noting-checked-requires : goal.check_noting-checked-requires
-check_noting-checked-requires c = refl
+pub check_noting-requires : goal.check_noting-requires
+check_noting-requires c = refl
+
+pub returns-in_err-check_noting : goal.returns-in_err-check_noting
+unfolding answer_for list_for
+returns-in_err-check_noting c =
+    let p = err_from_is_err_and c.from_residual.result c.from_residual.ensures.1 in
+    let q = sym c.in_err-check_noting.ensures.answer in
+    record { answer = rw q (p.1 ∙ ap Err p.2); list = rw q refl }
 
 pub list_faults-requires : goal.list_faults-requires
 list_faults-requires c =
-    let a = sym c.check_noting-checked.ensures.answer ∙ c.in-Ok.is in
-    record {
-      header_value = a;
-      noted = accepted-noted _ a _ _ refl c.check_noting-checked.ensures.cards;
-    }
+    let q = sym c.in_ok-check_noting.ensures.answer in
+    record { header_value = q; noted = accepted-noted _ q _ _ refl c.in_ok-check_noting.ensures.cards }
 
-pub returns-in-Ok : goal.returns-in-Ok
+pub returns : goal.returns
 unfolding answer_for list_for
-returns-in-Ok c =
-    let q = sym c.check_noting-checked.ensures.answer ∙ c.in-Ok.is in
-    record {
-      answer = rw q (ap Ok c.list_faults.ensures.number);
-      list = rw q c.list_faults.ensures.list;
-    }
-
-pub returns-in-Err : goal.returns-in-Err
-unfolding answer_for list_for
-returns-in-Err c =
-    let q = sym c.check_noting-checked.ensures.answer ∙ c.in-Err.is in
-    record {
-      answer = rw q refl;
-      list = rw q refl;
-    }
+returns c =
+    let q = sym c.in_ok-check_noting.ensures.answer in
+    record { answer = rw q (ap Ok c.list_faults.ensures.number); list = rw q c.list_faults.ensures.list }

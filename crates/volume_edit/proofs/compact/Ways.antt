@@ -1,35 +1,19 @@
 -- What each way through comparing two lines finds.
 use Prim.Native.Nat.{ℕ, zero, suc, ◌+◌, ◌-◌, ◌*◌}
-use native.Mathlib.Omega.{arith}
 use mathlib.Core.Path.{◌≡◌, refl, sym, ap, ap₂, ◌∙◌}
 use mathlib.Core.List.{List}
-use mathlib.Core.Bool.{Bool, true, false, false≢true}
-use lib.IntN.{ℤ, pos, negsuc}
-use lib.Signed.{lt_z}
-use borrow.Author.Tests.{ltb-true}
+use mathlib.Core.Bool.{Bool, true, false}
 use lib.ListN.{length, take, drop}
 use Rattle.std.specs.List.{list_any}
 use Rattle.base_lists.specs.Parts.{alike}
-use Rattle.base_value.specs.declared.Value.TheVariants.{Whole}
 use Rattle.value_text.specs.text.Texts.{text_of}
 use Rattle.volume_form.specs.Rows.{Row}
 use Rattle.volume_form.specs.Moved.{laid_at, moved}
 use Rattle.volume_form.specs.Marked.{entry_card}
-use Rattle.volume_rules.specs.SameLine.{sort_of, same_number, same_in, name_on, sequence_on, same_on, superseded_on}
+use Rattle.volume_rules.specs.SameLine.{same_number, same_in, name_on, sequence_on, same_on, superseded_on}
 use Rattle.volume_check.proofs.Chunks.{cards}
 use Rattle.volume_edit.specs.Parts.{line_kept}
 use Rattle.volume_edit.proofs.convert.Steps.{rest_all}
-use Rattle.std.specs.Prelude.{Ok}
-
-pub sign_below : (z : ℤ) → lt_z z (pos 0) ≡ true → 2 ≡ sort_of (Ok (Whole z))
-unfolding sort_of
-sign_below (pos n) e = absurd (omega (arith, ltb-true n 0 e))
-sign_below (negsuc n) e = refl
-
-pub sign-from : (z : ℤ) → lt_z z (pos 0) ≡ false → 1 ≡ sort_of (Ok (Whole z))
-unfolding sort_of
-sign-from (pos n) e = refl
-sign-from (negsuc n) e = absurd (false≢true (sym e))
 
 module _ (card other name name' : List ℕ) (t : Bool) (n : name ≡ text_of (take 16 (drop 6 card))) (n' : name' ≡ text_of (take 16 (drop 6 other)))
     (t-is : t ≡ alike name name') where

@@ -2,7 +2,8 @@
 use mathlib.Core.Path.{◌∙◌, ap}
 use Rattle.value_text.specs.text.Texts.{text_of}
 use Rattle.tie_rules.specs.Keys.{between}
-use Rattle.survey_compass.proofs.Listed.{for_none, for_some, alike_is}
+use Rattle.base_lists.proofs.Comparing.{alike_is}
+use Rattle.survey_compass.proofs.Listed.{for_none, for_some}
 use Rattle.survey_compass.proofs.serials.is_for.Goals as goal
 
 pub returns-then-layout_of-eq-CORRECTIONS : goal.returns-then-layout_of-eq-CORRECTIONS

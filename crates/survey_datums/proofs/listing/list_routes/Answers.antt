@@ -1,18 +1,21 @@
 -- `survey_datums::listing::list_routes` meets its contract.
+use mathlib.Core.Path.{ap, ◌∙◌}
+use Rattle.std.specs.Prelude.{Err}
+use Rattle.std.proofs.lemmas.Result.{err_from_is_err_and}
 use Rattle.survey_datums.proofs.Laying.{told-listed, refused-listed}
 use Rattle.survey_datums.proofs.listing.list_routes.Goals as goal
 
-pub returns-in-Ok : goal.returns-in-Ok
-returns-in-Ok c =
+pub returns-in_err-routes : goal.returns-in_err-routes
+returns-in_err-routes c =
     let a = c.args in
-    record {
-      answer = (told-listed a.header.now a.list.now c.find_routes-routes.result c.find_routes-routes.ensures c.in-Ok.is
-          c.count_routed.result c.count_routed.ensures _ c.lay.ensures).0;
-      list = (told-listed a.header.now a.list.now c.find_routes-routes.result c.find_routes-routes.ensures c.in-Ok.is
-          c.count_routed.result c.count_routed.ensures _ c.lay.ensures).1;
-    }
+    let r = c.find_routes-routes in
+    let p = err_from_is_err_and c.from_residual.result c.from_residual.ensures.1 in
+    let w = refused-listed a.header.now a.list.now r.result r.ensures _ c.in_err-routes.was in
+    record { answer = p.1 ∙ ap Err p.2 ∙ w.0; list = w.1 }
 
-pub returns-in-Err : goal.returns-in-Err
-returns-in-Err c =
+pub returns : goal.returns
+returns c =
     let a = c.args in
-    record { answer = (refused-listed a.header.now a.list.now c.find_routes-routes.result c.find_routes-routes.ensures _ c.in-Err.is).0; list = (refused-listed a.header.now a.list.now c.find_routes-routes.result c.find_routes-routes.ensures _ c.in-Err.is).1 }
+    let r = c.find_routes-routes in
+    let w = told-listed a.header.now a.list.now r.result r.ensures c.in_ok-routes.was c.count_routed.result c.count_routed.ensures _ c.lay.ensures in
+    record { answer = w.0; list = w.1 }

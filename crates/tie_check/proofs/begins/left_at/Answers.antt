@@ -13,16 +13,16 @@ returns-then-i-eq0 c =
     let t = c.args.card.now in
     sym (ap (λ i. misplaced_among (fields_of k) t (get_or (begins k) i 0)) c.if-i-eq0.true ∙ left_code k t)
 
-pub returns-then-row-eq0 : goal.returns-then-row-eq0
-returns-then-row-eq0 c =
-    sym (none-begins c.args.layout _ _ c.if-i-eq0.false c.row_of-row.ensures c.args.card.now c.if-row-eq0.true)
+pub returns-else-row-ne0 : goal.returns-else-row-ne0
+returns-else-row-ne0 c =
+    rw c.if-row-ne0.false (sym (none-begins c.args.layout _ _ c.if-i-eq0.false c.row_of-row.ensures c.args.card.now c.if-row-ne0.false))
 
 pub is_misplaced-requires : goal.is_misplaced-requires
 is_misplaced-requires c =
-    let l = row_lies c.args.layout _ _ c.if-i-eq0.false c.row_of-row.ensures c.if-row-eq0.false in
+    let l = row_lies c.args.layout _ _ c.if-i-eq0.false c.row_of-row.ensures c.if-row-ne0.true in
     (c.requires, l.0, l.1, l.2)
 
-pub returns : goal.returns
-returns c =
+pub returns-then-row-ne0 : goal.returns-then-row-ne0
+returns-then-row-ne0 c =
     c.is_misplaced.ensures
-    ∙ sym (left_begins c.args.layout _ _ c.if-i-eq0.false c.row_of-row.ensures c.if-row-eq0.false c.args.card.now)
+    ∙ sym (left_begins c.args.layout _ _ c.if-i-eq0.false c.row_of-row.ensures c.if-row-ne0.true c.args.card.now)

@@ -14,6 +14,6 @@ returns-then-left c =
     c.left_at.ensures
     ∙ sym (ap (λ b. misplaced_among (fields_of k) c.args.card.now (get_or (walked b k) c.args.i 0)) c.if-left.true)
 
-pub returns : goal.returns
-returns c =
-    sym (none_left c.args.card.now (fields_of c.args.layout) (sym c.requires.left_value ∙ c.if-left.false) _)
+pub returns-else-left : goal.returns-else-left
+returns-else-left c =
+    c.if-left.false ∙ sym (none_left c.args.card.now (fields_of c.args.layout) (sym c.requires.left_value ∙ c.if-left.false) _)

@@ -6,8 +6,8 @@ use Rattle.tie_check.proofs.judging.contradicts.Goals as goal
 
 pub returns-then-states_own : goal.returns-then-states_own
 returns-then-states_own c =
-    against_own c.args.card.now c.args.row c.args.vessel c.args.tag _ _ _ c.states_own.ensures
-    c.if-states_own.true c.column_of-column.ensures c.whole_in.ensures
+    rw c.from.ensures (against_own c.args.card.now c.args.row c.args.vessel c.args.tag _ _ _ c.states_own.ensures
+    c.if-states_own.true c.column_of-column.ensures c.whole_in.ensures)
 
 pub returns : goal.returns
 returns c =
