@@ -13,7 +13,10 @@ fn lay_code(card: &mut [u8], code: &[u8])
     requires { length code.now ≤ length card.old }
     ensures { card.new ≡ code.now ++ drop (length code.now) card.old }
 {
-    card[..code.len()].copy_from_slice(code);
+    // A copy of slices would want memmove of the C library.
+    for (i, b) in code.iter().enumerate() {
+        card[i] = *b;
+    }
 }
 
 // Writes a layout's label, and blanks behind it.

@@ -28,7 +28,10 @@ pub fn copy(columns: &mut [u8], text: &[u8])
     requires { length text.now ≤ length columns.old }
     ensures { columns.new ≡ text.now ++ drop (length text.now) columns.old }
 {
-    columns[..text.len()].copy_from_slice(text);
+    // A copy of slices would want memmove of the C library.
+    for (i, b) in text.iter().enumerate() {
+        columns[i] = *b;
+    }
 }
 
 // Writes a text left adjusted, or changes nothing.
