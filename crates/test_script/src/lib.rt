@@ -15,14 +15,14 @@ use std::io::{Read, Stdin, Stdout};
 const BAR: u8 = b'|';
 
 // Room for a script.
-fn room() -> [u8; 262144]
+pub fn room() -> [u8; 262144]
     ensures { 262144 ≡ length result }
 {
     [0; 262144]
 }
 
 // Reads until the input ends, a read fails or the text is full, and answers how many bytes there are.
-fn read_full(mut from: Stdin, text: &mut [u8]) -> usize
+pub fn read_full(mut from: Stdin, text: &mut [u8]) -> usize
     ensures { result ≤ length text.new }
 {
     let mut done = 0;
@@ -64,7 +64,7 @@ fn is_title(line: &[u8]) -> bool {
 }
 
 // Repeats a line, and answers whether it asks for an answer: an empty line and a title do not.
-fn asks(to: Stdout, line: &[u8]) -> bool {
+pub fn asks(to: Stdout, line: &[u8]) -> bool {
     say::words(to, line);
     if is_title(line) {
         return false;
